@@ -1,10 +1,10 @@
 //! The abstract monitor: what KDCS calls, PENDs, turns of tasks, terminal inputs and script commands do, as definitions
-//! over lists and whole tables that compute; what a plain statement of a unit means (`unit_semantics`); and the data types that
-//! they need beside those below.
+//! over lists and whole tables that compute; what a plain statement of a unit means (`unit_semantics`); and the data
+//! types that they need beside those below.
 //!
-//! It stands on the data types, the generation and the units. A crate above proves each of its calls against one
-//! definition: `denial_of`, `call_outcome`, `pend_outcome`, `synchronised`, `broken`, `due_job`, `pick`, `use_of`,
-//! `turn_of`, `command_of`, `started` and `trace` are the words that contracts cite.
+//! It stands on the data types (kdcs_types) and on generations and units (application_types). A crate above proves each
+//! of its calls against one definition: `denial_of`, `call_outcome`, `pend_outcome`, `synchronised`, `broken`,
+//! `due_job`, `pick`, `use_of`, `turn_of`, `command_of`, `started` and `trace` are the words that contracts cite.
 #![tactic(auto)]
 
 mod access;

@@ -11,7 +11,7 @@ use Rattle.application_types.specs.Generation.{Generated, entry_of, tac_of, user
 use Rattle.application_check.specs.declared.kdcdef_check.fault.CheckFault.{CheckFault}
 use Rattle.application_check.specs.declared.kdcdef_check.fault.CheckFault.TheVariants.{NameTwice, NoProgram, NoLterm, LtermTwice, NoMax, ClassOfWrongKind, PoolTooSmall, NoUser, TooMany, NoKset}
 use Rattle.application_check.specs.declared.kdcdef_check.fault.CheckFault.TheVariants.{PoolForDouble, Memory}
-use Rattle.application_check.specs.Soundness.{fits_kind, restart_count}
+use Rattle.application_types.specs.Soundness.{fits_kind, restart_count}
 use Rattle.application_check.specs.Generating.{generated, max_given}
 
 -- ---- against what the statements before it generate
@@ -141,19 +141,19 @@ abbrev pub HasFault : List Statement → List Statement → Statement → CheckF
 HasFault all before s fault = (line_of fault ≡ s.line) × IsTrue (shows all before s.said fault)
 
 -- a statement has the fault
-abbrev pub Stands : List Statement → CheckFault → Type 0
-Stands ss fault = (i : ℕ) × (s : Statement) × (slice_get ss i ≡ Some s) × HasFault ss (take i ss) s fault
+abbrev pub SomeHasFault : List Statement → CheckFault → Type 0
+SomeHasFault ss fault = (i : ℕ) × (s : Statement) × (slice_get ss i ≡ Some s) × HasFault ss (take i ss) s fault
 
 abbrev pub comes_first : CheckFault → CheckFault → Bool
 comes_first a b = first_by line_of number_of a b
 
 -- there is no fault
 abbrev pub AreFaultless : List Statement → Type 0
-AreFaultless ss = (fault : CheckFault) → Stands ss fault → ⊥
+AreFaultless ss = (fault : CheckFault) → SomeHasFault ss fault → ⊥
 
 -- the fault is there, and none on a lesser line, nor one of a lesser number on its line
 abbrev pub IsFirstFault : List Statement → CheckFault → Type 0
-IsFirstFault ss fault = IsFirstBy line_of number_of (Stands ss) (Some fault)
+IsFirstFault ss fault = IsFirstBy line_of number_of (SomeHasFault ss) (Some fault)
 
 abbrev pub is_memory : CheckFault → Bool
 is_memory Memory = true

@@ -10,7 +10,7 @@ use Rattle.application_types.specs.declared.unit_types.unit.Field.{Field}
 use Rattle.application_types.specs.UnitText.{UnitText, jump_of, label_place}
 use Rattle.application_check.specs.declared.unit_check.fault.FitFault.{FitFault}
 use Rattle.application_check.specs.declared.unit_check.fault.FitFault.TheVariants.{NoUnit, NoLabel, FieldPastArea, LiteralFollowUp}
-use Rattle.application_check.specs.Fitted.{unit_named, area_len, literal_follow_up, tac_in}
+use Rattle.application_types.specs.Fitted.{unit_named, area_len, literal_follow_up, tac_in}
 use Rattle.application_check.specs.FitFaults.{line_of, number_of}
 
 -- the first of two faults that were found

@@ -2,9 +2,6 @@ pub mod EndsLaws
 pub mod Faults
 pub mod Finding
 pub mod FitFaults
-pub mod Fitted
 pub mod Gathering
 pub mod Generating
-pub mod Soundness
 pub mod Steps
-pub mod Tables

@@ -22,7 +22,7 @@ use Rattle.application_check.specs.declared.kdcdef_check.fault.CheckFault.TheVar
 use Rattle.application_check.specs.declared.kdcdef_check.tally.Tally.{Tally}
 use Rattle.application_check.specs.declared.kdcdef_check.tables.Tables.{Tables}
 use Rattle.application_check.specs.declared.kdcdef_check.whole.Whole.{Whole}
-use Rattle.application_check.specs.Soundness.{restart_count}
+use Rattle.application_types.specs.Soundness.{restart_count}
 
 -- ---- the first fault
 
@@ -188,7 +188,7 @@ is_restart (User name entry) = entry.restart
 is_restart _ = false
 
 -- what all statements say together
-pub record IsWhole (w : Whole) (ss : List Statement) : Type 0 where
+pub record SaysTogether (w : Whole) (ss : List Statement) : Type 0 where
   pub max : w.max ≡ max_given ss
   pub users : w.users ≡ length (said_as as_user ss)
   pub restarts : w.restarts ≡ restart_count (said_as as_user ss)

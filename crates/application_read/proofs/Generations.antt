@@ -5,10 +5,10 @@ use Rattle.application_types.specs.declared.kdcdef_types.limits.Limits.{Limits}
 use Rattle.application_types.specs.Generation.{Generated}
 use Rattle.texts.proofs.kdcdef_lex.Bounds.{are_within_bounds}
 use Rattle.kdcdef_read.proofs.Apart.{are_read}
-use Rattle.application_check.specs.Soundness.{IsSound}
+use Rattle.application_types.specs.Soundness.{IsSound}
 use Rattle.application_check.proofs.kdcdef_check.Sound.{sound}
 use Rattle.application_types.specs.UnitText.{UnitText}
-use Rattle.application_check.specs.Fitted.{IsFit, AreFit}
+use Rattle.application_types.specs.Fitted.{IsFit, AreFit}
 use Rattle.application_read.specs.Definition.{Generates}
 use Rattle.application_read.specs.Texts.{TextsGenerate}
 use Rattle.application_read.specs.declared.application.Application.{Application}

@@ -16,7 +16,7 @@ use Rattle.unit_read.specs.Faults.{HasTextFault}
 use Rattle.unit_read.specs.Answers.{is_memory as is_units_memory, Gives as UnitsGive}
 use Rattle.application_check.specs.declared.unit_check.fault.FitFault.{FitFault}
 use Rattle.application_check.specs.declared.unit_check.fault.FitFault.TheVariants as fit_faults
-use Rattle.application_check.specs.Fitted.{FittedUnits, AreFittedTo}
+use Rattle.application_types.specs.Fitted.{FittedUnits, AreFittedTo}
 use Rattle.application_check.specs.FitFaults.{IsFirstFault, is_memory as is_fit_memory, Gives as FitGives}
 use Rattle.application_read.specs.declared.application.Application.{Application}
 use Rattle.application_read.specs.declared.fault.ApplicationFault.{ApplicationFault}

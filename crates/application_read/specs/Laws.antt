@@ -1,8 +1,8 @@
 -- What holds of all that texts generate.
 use Rattle.std.specs.Prelude.{ℕ, List}
 use Rattle.application_types.specs.Generation.{Generated}
-use Rattle.application_check.specs.Soundness.{IsSound}
-use Rattle.application_check.specs.Fitted.{IsFit, AreFit}
+use Rattle.application_types.specs.Soundness.{IsSound}
+use Rattle.application_types.specs.Fitted.{IsFit, AreFit}
 use Rattle.application_read.specs.Definition.{Generates}
 use Rattle.application_read.specs.Texts.{TextsGenerate}
 use Rattle.application_read.specs.declared.application.Application.{Application}

@@ -6,7 +6,7 @@ use Rattle.application_read.specs.Definition.{Generates, HasFault}
 use Rattle.application_types.specs.UnitText.{UnitText}
 use Rattle.unit_read.specs.Spelling.{SpellsUnits}
 use Rattle.unit_read.specs.Faults.{HasTextFault}
-use Rattle.application_check.specs.Fitted.{FittedUnits, AreFittedTo}
+use Rattle.application_types.specs.Fitted.{FittedUnits, AreFittedTo}
 use Rattle.application_check.specs.FitFaults.{IsFirstFault}
 use Rattle.application_read.specs.declared.application.Application.{Application}
 use Rattle.application_read.specs.declared.fault.ApplicationFault.{ApplicationFault}

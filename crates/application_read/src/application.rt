@@ -1,13 +1,14 @@
 //! From the texts to the application.
 ghost use Rattle.std.specs.Prelude.{◌≢◌, Ok, Err, IfOk, IfErr};
-ghost use Rattle.application_check.specs.Fitted.{IsFit};
+ghost use Rattle.application_types.specs.Fitted.{IsFit};
 ghost use Rattle.application_read.specs.{Texts.{TextsGenerate, TextsHaveFault, Gives}, declared.fault.ApplicationFault.{ApplicationFault as Fault}};
 ghost use Rattle.application_read.specs.{declared.fault.ApplicationFault.TheVariants.{Memory}, declared.application.Application.{Application as Generated}};
 
 use crate::definition_text::generate;
 use crate::fault::ApplicationFault;
-use application_check::kdcdef_check::Generation;
-use application_check::unit_check::{Units, fit};
+use application_check::unit_check::fit;
+use application_types::generation::Generation;
+use application_types::units::Units;
 use std::alloc::Global;
 use unit_read::read_units;
 

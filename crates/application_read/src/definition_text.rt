@@ -7,7 +7,8 @@ ghost use Rattle.application_read.specs.{Definition.{Generates, HasFault, Gives}
 ghost use Rattle.application_read.specs.declared.definition_fault.DefinitionFault.TheVariants.{Memory};
 
 use crate::definition_fault::DefinitionFault;
-use application_check::kdcdef_check::{Gathered, Generation, check};
+use application_check::kdcdef_check::{Gathered, check};
+use application_types::generation::Generation;
 use kdcdef_read::{ReadFault, Reader, read};
 use std::alloc::Global;
 use texts::kdcdef_lex::lines;

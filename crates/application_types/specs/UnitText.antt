@@ -93,6 +93,6 @@ abbrev pub HasShortOperands : UnitText → Type 0
 HasShortOperands unit = All (λ (s : UnitStatement). All IsShortOperand (operands_of s.action)) unit.statements
 
 -- what a text can spell: labels count from one, and no operand is longer than an area may be
-pub record IsWhole (unit : UnitText) : Type 0 where
+pub record IsSpellable (unit : UnitText) : Type 0 where
   pub labels : LabelsFromOne unit
   pub operands : HasShortOperands unit

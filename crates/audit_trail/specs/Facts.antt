@@ -42,7 +42,7 @@ IsNote (Released area content) = IsProperKey (area_key area)
 IsNote (Refused area code) = IsProperKey (area_key area) × IsRefusal code
 
 -- what a transaction may have kept
-pub record IsKept (kept : Settled) : Type 0 where
+pub record IsKeptRecord (kept : Settled) : Type 0 where
   pub service : IsProperKey (ServiceKey kept.service)
   pub began : IsRowOf kept.service kept.began
   pub notes : All IsNote kept.notes
@@ -51,7 +51,7 @@ pub record IsKept (kept : Settled) : Type 0 where
 abbrev pub IsMaker : By → Type 0
 IsMaker (Tick ticks) = ⊤
 IsMaker (Shown lterm) = IsName lterm
-IsMaker (Transaction kept) = IsKept kept
+IsMaker (Transaction kept) = IsKeptRecord kept
 
 -- ---- changes, entries and trails
 

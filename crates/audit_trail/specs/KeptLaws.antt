@@ -49,7 +49,7 @@ use Rattle.audit_trail.specs.Kept.{many, service_key_bytes, began_bytes, area_by
 use Rattle.audit_trail.specs.KeptReadings.{picked, many_items, key_field, key_of_kind, service_at, area_at, service_field, area_field, service_of_row, service_with, no_row, some_row, began_reading}
 use Rattle.audit_trail.specs.KeptReadings.{released, refused, code_reading, note_reading, last_statement, few_statements, statements_reading, ending_at, ending_reading, EndPart, KeptPart, kept_part}
 use Rattle.audit_trail.specs.KeptReadings.{settled_of, kept_reading, kept_read}
-use Rattle.audit_trail.specs.Facts.{IsRowOf, IsRefusal, IsNote, IsKept}
+use Rattle.audit_trail.specs.Facts.{IsRowOf, IsRefusal, IsNote, IsKeptRecord}
 use Rattle.audit_trail.specs.Written.{HasShortRow, HasShortNote, HasShortParts}
 
 -- ---- readers made of others
@@ -545,7 +545,7 @@ began_there : (id : ServiceId) (o : Option Service) → BeganFits id o → IsRow
 began_there id None h = tt
 began_there id (Some s) h = h.0
 
-pub kept_there : (bytes : List ℕ) (k : Settled) → AreBytes bytes → kept_read bytes ≡ Some k → IsKept k
+pub kept_there : (bytes : List ℕ) (k : Settled) → AreBytes bytes → kept_read bytes ≡ Some k → IsKeptRecord k
 kept_there bytes k are e =
     let fits = (whole_there kept_reading kept_bytes KeptFits kepts_are_read k bytes are e).1 in
     record {
@@ -587,7 +587,7 @@ kept_length k =
       length-append (to_be_bytes w64 (length k.notes)) (flat_map note_bytes k.notes),
     )
 
-pub kept_back : (k : Settled) → IsKept k → HasShortParts k → length (kept_bytes k) < 2 ^ 64 → kept_read (kept_bytes k) ≡ Some k
+pub kept_back : (k : Settled) → IsKeptRecord k → HasShortParts k → length (kept_bytes k) < 2 ^ 64 → kept_read (kept_bytes k) ≡ Some k
 kept_back k is short long =
     let many_inputs = count_within list (λ x. omega arith) k.inputs in
     let many_notes = count_within note_bytes some_note k.notes in

@@ -20,7 +20,7 @@ use Rattle.record_codec.specs.Values.{record_key, value_bytes}
 use Rattle.audit_trail.specs.declared.entry.By.TheVariants as made
 use Rattle.audit_trail.specs.declared.line.Line.{Line}
 use Rattle.audit_trail.specs.declared.line.Line.TheVariants as says
-use Rattle.audit_trail.specs.Facts.{IsKept}
+use Rattle.audit_trail.specs.Facts.{IsKeptRecord}
 use Rattle.audit_trail.specs.Kept.{kept_bytes}
 use Rattle.audit_trail.specs.KeptLaws.{cells, cells_fit, key_bytes_are, kept_back}
 use Rattle.audit_trail.specs.KeptReadings.{kept_read}
@@ -68,7 +68,7 @@ tick_back ticks h = spelled (codes "N") (decimal ticks ∷ []) (says.Made (made.
 pub shown_back : (lterm : List ℕ) → IsName lterm → Spells (codes "O") (lterm ∷ []) (says.Made (made.Shown lterm))
 shown_back lterm h = spelled (codes "O") (lterm ∷ []) (says.Made (made.Shown lterm)) (omega arith, tt) ((name_word lterm h).0, tt) (ap (option_map shown) (name_word lterm h).1)
 
-pub settled_back : (kept : Settled) → IsKept kept → HasShortParts kept → AreBytes (kept_bytes kept) → length (kept_bytes kept) < 2 ^ 64 → Spells (codes "T") (encode_lower (kept_bytes kept) ∷ []) (says.Made (made.Transaction kept))
+pub settled_back : (kept : Settled) → IsKeptRecord kept → HasShortParts kept → AreBytes (kept_bytes kept) → length (kept_bytes kept) < 2 ^ 64 → Spells (codes "T") (encode_lower (kept_bytes kept) ∷ []) (says.Made (made.Transaction kept))
 settled_back kept is short are long =
     spelled (codes "T") (encode_lower (kept_bytes kept) ∷ []) (says.Made (made.Transaction kept)) (omega arith, tt) (encoded_black (kept_bytes kept) are, tt)
     (ap (option_map settled) (ap (option_and_then kept_read) (bytes_back (kept_bytes kept) are) ∙ kept_back kept is short long))

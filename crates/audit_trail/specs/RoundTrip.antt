@@ -9,7 +9,7 @@ use Rattle.record_codec.specs.TableReadings.{AreRecordBytes, AreProperTables}
 use Rattle.audit_trail.specs.declared.entry.By.{By}
 use Rattle.audit_trail.specs.declared.entry.By.TheVariants.{Tick, Shown, Transaction}
 use Rattle.audit_trail.specs.declared.entry.TrailEntry.{TrailEntry}
-use Rattle.audit_trail.specs.Facts.{IsKept, AreProperChanges}
+use Rattle.audit_trail.specs.Facts.{IsKeptRecord, AreProperChanges}
 use Rattle.audit_trail.specs.Places.{trail_in, trail_of}
 use Rattle.audit_trail.specs.Printed.{trail_text}
 use Rattle.audit_trail.specs.Written.{HasShortParts, AreMakerBytes, AreChangeBytes}
@@ -21,7 +21,7 @@ HasFewDigits n = n < 10 ^ 18
 abbrev pub IsWritableMaker : By → Type 0
 IsWritableMaker (Tick ticks) = HasFewDigits ticks
 IsWritableMaker (Shown lterm) = IsName lterm
-IsWritableMaker (Transaction kept) = IsKept kept × HasShortParts kept
+IsWritableMaker (Transaction kept) = IsKeptRecord kept × HasShortParts kept
 
 -- an entry whose parts a line can say
 pub record IsWritable (e : TrailEntry) : Type 0 where

@@ -36,7 +36,7 @@ use Rattle.audit_trail.specs.KeptLaws.{kept_there}
 use Rattle.audit_trail.specs.Lines.{words, one, two, three, bytes_of, so_many_bytes, value_of, two_numbers, kept_of, kind_of, with_bytes, record_key_of, key_of, row_of, end_of, begun, started}
 use Rattle.audit_trail.specs.Lines.{committed, ticked, shown, settled, set, removed, said, keyword_of, said_by, line_in}
 use Rattle.audit_trail.specs.WordsLaws.{are_bytes, so_many_are_bytes, value_is_bytes}
-use Rattle.audit_trail.specs.Facts.{IsMaker, IsKept, IsProperChange, AreProperChanges, IsEntry, IsTrail, IsOrdered}
+use Rattle.audit_trail.specs.Facts.{IsMaker, IsKeptRecord, IsProperChange, AreProperChanges, IsEntry, IsTrail, IsOrdered}
 use Rattle.audit_trail.specs.Places.{trail_of, entry_of, with_entry, with_next, with_fingerprint, with_start, with_commit, with_row_at_start, changing, with_change, so_far, made, ended, step}
 use Rattle.audit_trail.specs.Places.{after_line}
 
@@ -85,7 +85,7 @@ key_is_proper p q e =
     let a = and_some key_read (record_key_of p) q e in
     key_proper a.0 q (record_key_bytes p a.0 a.1) a.2
 
-kept_is : (word : List ℕ) (kept : Settled) → kept_of word ≡ Some kept → IsKept kept
+kept_is : (word : List ℕ) (kept : Settled) → kept_of word ≡ Some kept → IsKeptRecord kept
 kept_is word kept e =
     let a = and_some kept_read (bytes_of word) kept e in
     kept_there a.0 kept (are_bytes word a.0 a.1) a.2

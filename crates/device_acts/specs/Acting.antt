@@ -3,7 +3,7 @@ use Rattle.std.specs.Prelude.{◌≡◌, ◌⊎◌, ◌≤◌, ℕ, ◌+◌, Boo
 use Rattle.std.specs.List.{list_all}
 use Rattle.kd_device.specs.Device.{State, Rose, Frame, SameFaults, SameNames, LeavesOnly}
 use Rattle.kd_records.specs.Charge.{total_charge}
-use Rattle.kd_records.specs.Contents.{patched, IsPatch}
+use Rattle.kd_records.specs.Contents.{patched, Change as RecordChange, IsPatch}
 use Rattle.kd_records.specs.Identity.{Identity}
 use Rattle.kd_records.specs.declared.content.Content.{Content}
 use Rattle.kd_records.specs.declared.content.Patch.{Patch}
@@ -11,6 +11,8 @@ use Rattle.kdcfile_store.specs.Kept.{IsKept}
 use Rattle.kdcs_types.specs.declared.act.Act.{Act}
 use Rattle.kdcs_types.specs.declared.act.Act.TheVariants.{Commit, Emit}
 use Rattle.kdcs_types.specs.declared.act.Changes.{Changes}
+use Rattle.kdcs_types.specs.declared.key.Key.{Key}
+use Rattle.kdcs_types.specs.Keys.{key_kind}
 use Rattle.abstract_monitor.specs.Bytes.{Bytes}
 use Rattle.abstract_monitor.specs.Lines.{restart_line}
 use Rattle.abstract_monitor.specs.Trace.{bytes_of}
@@ -55,12 +57,12 @@ abbrev pub IsKeptBy : (file : List ℕ → Type 0) → State → (ℕ → List �
 IsKeptBy file s leaves = (c : List ℕ) → leaves s.moment c s.sent → file c
 
 -- what holds where no call failed goes on from one part to the next
-pub record GoesOn (fine : State → State → Type 0) : Type 0 where
+pub record JoinsParts (fine : State → State → Type 0) : Type 0 where
   pub none : (a : State) → fine a a
   pub after : (a b d : State) → fine a b → fine b d → fine a d
 
 -- all their lines were sent, a stop leaves no image but those of the files, and the calls were fine
-pub record Performed (fine : State → State → Type 0) (file : List ℕ → Type 0) (acts : List Act) (a b : State) (lb : ℕ → List ℕ → List ℕ → Type 0) : Type 0 where
+pub record DidActs (fine : State → State → Type 0) (file : List ℕ → Type 0) (acts : List Act) (a b : State) (lb : ℕ → List ℕ → List ℕ → Type 0) : Type 0 where
   pub rest : IsTrue a.told → IsKeptBy file b lb
   pub sent : IsTrue a.told → b.sent ≡ a.sent ++ bytes_of acts
   pub calls : fine a b
@@ -117,6 +119,10 @@ abbrev pub content_after : Content → List Act → Content
 content_after x [] = x
 content_after x (Commit c ∷ acts) = content_after (patched x (patch_of c)) acts
 content_after x (Emit line ∷ acts) = content_after x acts
+
+-- each record that the patch changes is of a kind that the rows of tables have
+abbrev pub IsOfChanges : Patch → Type 0
+IsOfChanges p = All (λ (c : RecordChange). (k : Key) × (c.0.kind ≡ key_kind k)) p.items
 
 -- a store of this identity that keeps the content can take the changes
 pub record CanCommit (i : Identity) (x : Content) (c : Changes) : Type 0 where

@@ -11,7 +11,7 @@ use Rattle.kdcs_types.specs.declared.act.Act.TheVariants.{Commit, Emit}
 use Rattle.abstract_monitor.specs.Bytes.{Bytes}
 use Rattle.abstract_monitor.specs.Trace.{bytes_of}
 use Rattle.laws_of_states.specs.Cut.{SentBy}
-use Rattle.device_acts.specs.Acting.{is_line, commits_nothing, AsksDisk, GoesOn, HaltsAt, IsCutOf, IsKeptBy, LineOrDisk, Performed, WithinActs}
+use Rattle.device_acts.specs.Acting.{is_line, commits_nothing, AsksDisk, JoinsParts, HaltsAt, IsCutOf, IsKeptBy, LineOrDisk, DidActs, WithinActs}
 
 pub bytes_joined : (p q : List Act) → bytes_of (p ++ q) ≡ bytes_of p ++ bytes_of q
 unfolding bytes_of
@@ -92,9 +92,9 @@ module _ {X : Type 0} (after : X → List Act → X) (goes : Goes after) (stands
 -- some first acts of all are done: a is the device at the start, and b the device now
 pub record Running {X : Type 0} (fine : State → State → Type 0) (after : X → List Act → X) (stands : X → Bytes → Type 0) (file : List ℕ → Type 0) (start : X) (all done : List Act) (a b : State) (la lb : ℕ → List ℕ → List ℕ → Type 0) : Type 0 where
   pub within : WithinActs after stands start all a b la lb
-  pub sent : Performed fine file done a b lb
+  pub sent : DidActs fine file done a b lb
 
-module _ {X : Type 0} (fine : State → State → Type 0) (on : GoesOn fine) (after : X → List Act → X) (goes : Goes after) (stands : X → Bytes → Type 0) where
+module _ {X : Type 0} (fine : State → State → Type 0) (on : JoinsParts fine) (after : X → List Act → X) (goes : Goes after) (stands : X → Bytes → Type 0) where
   pub running_start : (file : List ℕ → Type 0) (start : X) (all : List Act) (a : State) (la : ℕ → List ℕ → List ℕ → Type 0) → (IsTrue a.told → IsKeptBy file a la) → Running fine after stands file start all [] a a la la
   running_start file start all a la kept = record {
     within = none_within after goes stands start all a la;
@@ -127,7 +127,7 @@ module _ {X : Type 0} (fine : State → State → Type 0) (on : GoesOn fine) (af
           record { holds = here_too.holds ∙ before.holds; put = here_too.put ∙ before.put };
     }
 
-    pub running_more : (file' : List ℕ → Type 0) → Performed fine file' here b d ld → Running fine after stands file' start all (done ++ here) a d la ld
+    pub running_more : (file' : List ℕ → Type 0) → DidActs fine file' here b d ld → Running fine after stands file' start all (done ++ here) a d la ld
     running_more file' h = record {
       within = running_within;
       sent = record {
@@ -167,11 +167,11 @@ pub one_more : {X : Type 0} (xs : List X) (i : ℕ) (d x : X) → x ≡ get_or x
 one_more xs i d x is lt = take_more xs i d lt ∙ ap (λ y. take i xs ++ y ∷ []) (sym is)
 
 -- the act at i is done
-module _ {X : Type 0} (fine : State → State → Type 0) (on : GoesOn fine) (after : X → List Act → X) (goes : Goes after) (stands : X → Bytes → Type 0) (file : List ℕ → Type 0) (start now : X) (all : List Act) (i : ℕ) (act : Act) (is : act ≡ get_or all i act) (lt : i < length all) (a b d : State) (la lb ld : ℕ → List ℕ → List ℕ → Type 0) (reached : IsTrue a.told → now ≡ after start (take i all)) (run : Running fine after stands file start all (take i all) a b la lb) (step : WithinActs after stands now (act ∷ []) b d lb ld) where
+module _ {X : Type 0} (fine : State → State → Type 0) (on : JoinsParts fine) (after : X → List Act → X) (goes : Goes after) (stands : X → Bytes → Type 0) (file : List ℕ → Type 0) (start now : X) (all : List Act) (i : ℕ) (act : Act) (is : act ≡ get_or all i act) (lt : i < length all) (a b d : State) (la lb ld : ℕ → List ℕ → List ℕ → Type 0) (reached : IsTrue a.told → now ≡ after start (take i all)) (run : Running fine after stands file start all (take i all) a b la lb) (step : WithinActs after stands now (act ∷ []) b d lb ld) where
   pub act_within : WithinActs after stands start all a d la ld
   act_within = running_within fine on after goes stands file start now all (take i all) (act ∷ []) (drop (i + 1) all) a b d la lb ld reached (λ told. around all i act act is lt) run step
 
-  pub act_more : (file' : List ℕ → Type 0) → Performed fine file' (act ∷ []) b d ld → Running fine after stands file' start all (take (i + 1) all) a d la ld
+  pub act_more : (file' : List ℕ → Type 0) → DidActs fine file' (act ∷ []) b d ld → Running fine after stands file' start all (take (i + 1) all) a d la ld
   act_more file' h =
       subst (λ (done : List Act). Running fine after stands file' start all done a d la ld) (sym (one_more all i act act is lt))
       (running_more fine on after goes stands file start now all (take i all) (act ∷ []) (drop (i + 1) all) a b d la lb ld reached (λ told. around all i act act is lt) run step file' h)

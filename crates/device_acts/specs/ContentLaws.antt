@@ -8,7 +8,7 @@ use Rattle.kd_base.specs.Text.{IsName, padded}
 use Rattle.kd_records.specs.Charge.{total_charge as records_charge}
 use Rattle.kd_records.specs.ChargeLaws.{length_within}
 use Rattle.kd_records.specs.Contents.{IsContent, IsKey, IsRecord}
-use Rattle.application_check.specs.Soundness.{AreLimits}
+use Rattle.application_types.specs.Soundness.{AreLimits}
 use Rattle.application_types.specs.Generation.{Generated}
 use Rattle.kdcs_types.specs.declared.act.Row.{Row}
 use Rattle.kdcs_types.specs.declared.key.Key.{Key}

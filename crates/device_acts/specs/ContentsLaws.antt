@@ -14,7 +14,7 @@ use Rattle.kdcs_types.specs.declared.act.Act.TheVariants.{Commit, Emit}
 use Rattle.kdcs_types.specs.declared.act.Changes.{Changes}
 use Rattle.abstract_monitor.specs.Trace.{bytes_of}
 use Rattle.record_codec.specs.Records.{patch_of}
-use Rattle.device_acts.specs.Acting.{commits_nothing, IsCutOf, IsKeptBy, Performed, WithinActs, content_after, AreCommittable}
+use Rattle.device_acts.specs.Acting.{commits_nothing, IsCutOf, IsKeptBy, DidActs, WithinActs, content_after, AreCommittable}
 use Rattle.device_acts.specs.Said.{Said, SaidPart}
 use Rattle.device_acts.specs.ActingLaws.{Goes, one_more, cut_none, cut_after, cut_within_line}
 
@@ -78,7 +78,7 @@ module _ (stands : Content → List ℕ → Type 0) (x : Content) (act : Act) (a
     quiet = λ told lines. absurd (not_lines c act is lines);
   }
 
-  pub commit_sent : (fine : State → State → Type 0) (file : List ℕ → Type 0) (c : Changes) → act ≡ Commit c → (IsTrue a.told → IsKeptBy file b lb) → (IsTrue a.told → b.sent ≡ a.sent) → fine a b → Performed fine file (act ∷ []) a b lb
+  pub commit_sent : (fine : State → State → Type 0) (file : List ℕ → Type 0) (c : Changes) → act ≡ Commit c → (IsTrue a.told → IsKeptBy file b lb) → (IsTrue a.told → b.sent ≡ a.sent) → fine a b → DidActs fine file (act ∷ []) a b lb
   commit_sent fine file c is kept sent went = record {
     rest = kept;
     sent = λ told. sent told ∙ sym (ap (λ (l : List ℕ). a.sent ++ l) (ap (λ (y : Act). bytes_of (y ∷ [])) is ∙ bytes_of_commit c) ∙ append-nil a.sent);
@@ -111,7 +111,7 @@ module _ {X : Type 0} (after : X → List Act → X) (goes : Goes after) (stands
   }
 
 -- a line that was sent
-pub line_sent : (fine : State → State → Type 0) (file : List ℕ → Type 0) (a b : State) (lb : ℕ → List ℕ → List ℕ → Type 0) (act : Act) (line : List ℕ) → act ≡ Emit line → (IsTrue a.told → IsKeptBy file b lb) → (IsTrue a.told → Said line a b) → fine a b → Performed fine file (act ∷ []) a b lb
+pub line_sent : (fine : State → State → Type 0) (file : List ℕ → Type 0) (a b : State) (lb : ℕ → List ℕ → List ℕ → Type 0) (act : Act) (line : List ℕ) → act ≡ Emit line → (IsTrue a.told → IsKeptBy file b lb) → (IsTrue a.told → Said line a b) → fine a b → DidActs fine file (act ∷ []) a b lb
 line_sent fine file a b lb act line is kept said went = record {
   rest = kept;
   sent = λ told. (said told).sent ∙ ap (λ (l : List ℕ). a.sent ++ l) (sym (ap (λ (y : Act). bytes_of (y ∷ [])) is ∙ bytes_of_line line));

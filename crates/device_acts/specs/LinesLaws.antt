@@ -1,17 +1,16 @@
--- Acts that are lines alone: they make nothing, and write nothing.
-use Rattle.std.proofs.Common.{◌≡◌, ℕ, true, List, [], ◌∷◌, ◌++◌, refl, sym, ap, subst, ◌∙◌, arith}
+-- Acts that are lines alone: they make nothing.
+use Rattle.std.proofs.Common.{◌≡◌, ℕ, true, List, [], ◌∷◌, ◌++◌, refl, sym, ap, subst, ◌∙◌}
 use Rattle.std.proofs.lemmas.List.Folds.{list_all-append}
 use Rattle.kd_base.specs.ToolsLaws.{both_true}
 use Rattle.kd_device.specs.Device.{State}
 use Rattle.kd_device.specs.TimeLaws.{leaves_weaker}
 use Rattle.kd_records.specs.Identity.{Identity}
 use Rattle.kd_records.specs.declared.content.Content.{Content}
-use Rattle.kd_records.specs.declared.content.Patch.{Patch}
 use Rattle.kdcs_types.specs.declared.act.Act.{Act}
 use Rattle.kdcs_types.specs.declared.act.Act.TheVariants.{Commit, Emit}
 use Rattle.kdcs_types.specs.Tables.{TableRows}
 use Rattle.abstract_monitor.specs.Trace.{tables_after}
-use Rattle.device_acts.specs.Acting.{is_line, commits_nothing, content_after, IsCutOf, WithinActs, WritesUpTo, acts_most, AreCommittable}
+use Rattle.device_acts.specs.Acting.{is_line, commits_nothing, content_after, IsCutOf, WithinActs, AreCommittable}
 
 front_lines : (p q : List Act) → commits_nothing (p ++ q) ≡ true → commits_nothing p ≡ true
 front_lines p q lines = (both_true (commits_nothing p) (commits_nothing q) (sym (list_all-append is_line p q) ∙ lines)).0
@@ -60,15 +59,3 @@ module _ (keeps : Content → List ℕ → Type 0) (x : Content) (stands : Table
     any_moment = λ told. leaves_weaker a b la lb (IsCutOf content_after keeps x acts a.sent) (IsCutOf tables_after stands t acts a.sent) (h.any_moment told) (lines_cut a.sent);
     quiet = h.quiet;
   }
-
--- ---- what they write
-
-most_of_lines : (most : Identity → Content → Patch → ℕ) (i : Identity) (x : Content) (p : List Act) → commits_nothing p ≡ true → acts_most most i x p ≡ 0
-most_of_lines most i x [] lines = refl
-most_of_lines most i x (Commit c ∷ p) lines = absurd cc
-most_of_lines most i x (Emit line ∷ p) lines = most_of_lines most i x p lines
-
-pub lines_written : (most : Identity → Content → Patch → ℕ) (i : Identity) (x : Content) (other : List Act → ℕ) (acts : List Act) (a b : State) → commits_nothing acts ≡ true → WritesUpTo (acts_most most i x) acts a b → WritesUpTo other acts a b
-lines_written most i x other acts a b lines h =
-    let none = most_of_lines most i x h.done (front_lines h.done h.left (ap commits_nothing (sym h.whole) ∙ lines)) in
-    record { since = h.since; more = h.more; done = h.done; left = h.left; whole = h.whole; bytes = h.bytes; put = omega (arith, h.put, none) }

@@ -1,12 +1,13 @@
--- The patch of changes in order, whose keys are proper, is a patch for a content.
+-- The patch of changes: it changes records of rows, and where the changes are in order and their keys proper, it is a patch for a content.
 use Rattle.std.specs.Prelude.{◌≡◌, refl, IsTrue, List, [], ◌∷◌, map, All}
-use Rattle.std.proofs.Common.{ap, subst, sym, ◌∙◌}
+use Rattle.std.proofs.Common.{ap, get_or, subst, sym, ◌∙◌}
 use Rattle.std.proofs.lemmas.List.Elements.{All-map, All-weaker, recursion_from_All}
 use Rattle.std.specs.FinMap.{is_sorted}
 use Rattle.std.specs.FinMap.Entries.{below_all}
 use Rattle.std.specs.List.{AllByRecursion as Each}
 use Rattle.std.specs.Ordering.{is_lt}
 use Rattle.kd_base.specs.ToolsLaws.{both_true, true_both}
+use Rattle.kd_records.specs.declared.content.Patch.{Patch}
 use Rattle.kd_records.specs.declared.key.RecordKey.{RecordKey}
 use Rattle.kd_records.specs.Contents.{Change as RecordChange, IsKey, IsPatch}
 use Rattle.kd_records.specs.Keys.{key_cmp as record_cmp}
@@ -15,12 +16,13 @@ use Rattle.kdcs_types.specs.declared.act.Change.TheVariants.{Set, Remove}
 use Rattle.kdcs_types.specs.declared.act.Changes.{Changes}
 use Rattle.kdcs_types.specs.declared.key.Key.{Key}
 use Rattle.kdcs_types.specs.Keyed.{ascends, keyed}
-use Rattle.kdcs_types.specs.Keys.{key_cmp}
+use Rattle.kdcs_types.specs.Keys.{key_cmp, key_kind}
 use Rattle.kdcs_types.specs.Tables.{change_key}
 use Rattle.record_codec.specs.Order.{IsProperKey}
 use Rattle.record_codec.specs.OrderLaws.{keys_keep_their_order}
 use Rattle.record_codec.specs.Records.{patch_of}
 use Rattle.record_codec.specs.Values.{record_change, record_key}
+use Rattle.device_acts.specs.Acting.{IsOfChanges}
 use Rattle.device_acts.specs.ContentLaws.{record_key_there}
 use Rattle.device_acts.specs.NamedLaws.{HasProperChange}
 
@@ -36,6 +38,11 @@ HasKey x = IsKey x.0
 
 change_there : (c : Change) → HasProperChange c → HasKey (record_change c)
 change_there c h = subst IsKey (sym (key_of_change c)) (record_key_there (change_key c) h)
+
+pub of_changes : (p : Patch) (c : Changes) → p ≡ patch_of c → IsOfChanges p
+of_changes p c is =
+    subst IsOfChanges (sym is)
+    (All-map (λ (x : RecordChange). (k : Key) × (x.0.kind ≡ key_kind k)) record_change c.items (λ i d lt. let change = get_or c.items i d in (change_key change, ap (λ (k : RecordKey). k.kind) (key_of_change change))))
 
 -- ---- order
 

@@ -8,7 +8,7 @@ use Rattle.kdcs_types.specs.declared.act.Act.TheVariants.{Commit, Emit}
 use Rattle.kdcs_types.specs.Difference.{difference}
 use Rattle.kdcs_types.specs.DifferenceLaws.{difference_changes, difference_makes_new}
 use Rattle.kdcs_types.specs.Tables.{TableRows, IsSortedTables, changed}
-use Rattle.application_check.specs.Soundness.{AreLimits}
+use Rattle.application_types.specs.Soundness.{AreLimits}
 use Rattle.application_types.specs.Generation.{Generated}
 use Rattle.abstract_monitor.specs.Commands.{ScriptStep, turned_step, command_of}
 use Rattle.abstract_monitor.specs.Endings.{durable}

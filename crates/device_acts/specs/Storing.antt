@@ -6,7 +6,7 @@ use Rattle.kdcs_types.specs.declared.act.Act.{Act}
 use Rattle.kdcs_types.specs.declared.act.Act.TheVariants.{Commit, Emit}
 use Rattle.kdcs_types.specs.declared.act.Changes.{Changes}
 use Rattle.kdcs_types.specs.Tables.{TableRows, changed}
-use Rattle.application_check.specs.Soundness.{AreLimits}
+use Rattle.application_types.specs.Soundness.{AreLimits}
 use Rattle.application_types.specs.Statements.{IsWithin}
 use Rattle.abstract_monitor.specs.State.{Application, State}
 use Rattle.abstract_monitor.specs.Endings.{durable}

@@ -2,7 +2,7 @@
 ghost use Rattle.std.specs.Prelude.{◌≡◌, ◌⊎◌, ◌∷◌, [], IsTrue, OnOk, IsErrOf};
 ghost use Rattle.kd_device.specs.Device.{Rose, SameFaults};
 ghost use Rattle.kdcfile_store.specs.Kept.{IsKept};
-ghost use Rattle.device_acts.specs.Acting.{acts_most, content_after, AreCommittable, IsKeptBy, LineOrDisk, Performed, WithinActs, WritesUpTo, WritesWithin, Sent};
+ghost use Rattle.device_acts.specs.Acting.{acts_most, content_after, AreCommittable, IsKeptBy, LineOrDisk, DidActs, WithinActs, WritesUpTo, WritesWithin, Sent};
 
 use crate::keeper::Keeper;
 use crate::single::SingleFile;
@@ -14,12 +14,14 @@ use std::alloc::Global;
 
 /// One act: a commit, whole or absent, or a line.
 fn do_act<K: Keeper>(alloc: Global, keeper: &mut K, act: &Act) -> Result<(), DeviceError>
+    requires ready { K.ready keeper.old }
     requires kept { IsTrue (K.state keeper.old).told → IsKeptBy (K.file keeper.old) (K.state keeper.old) (K.leaves keeper.old) }
     requires can { AreCommittable (K.identity keeper.old) (K.kept keeper.old) (act.now ∷ []) }
+    ensures ready { OnOk result (K.ready keeper.new) }
     ensures identity { K.identity keeper.new ≡ K.identity keeper.old }
     ensures any { WithinActs content_after (K.stands (K.identity keeper.old)) (K.kept keeper.old) (act.now ∷ []) (K.state keeper.old) (K.state keeper.new) (K.leaves keeper.old) (K.leaves keeper.new) }
     ensures content { OnOk result (K.kept keeper.new ≡ content_after (K.kept keeper.old) (act.now ∷ [])) }
-    ensures done { OnOk result (Performed K.fine (K.file keeper.new) (act.now ∷ []) (K.state keeper.old) (K.state keeper.new) (K.leaves keeper.new)) }
+    ensures done { OnOk result (DidActs K.fine (K.file keeper.new) (act.now ∷ []) (K.state keeper.old) (K.state keeper.new) (K.leaves keeper.new)) }
     ensures put { WritesWithin content_after (K.stands (K.identity keeper.old)) (K.kept keeper.old) (acts_most K.most_written (K.identity keeper.old) (K.kept keeper.old)) (act.now ∷ []) (K.state keeper.old) (K.state keeper.new) (K.leaves keeper.new) }
     ensures fine { (IsErrOf result DeviceError.Failed → ⊥) → K.fine (K.state keeper.old) (K.state keeper.new) }
     ensures failed { IsErrOf result DeviceError.Failed → Rose (K.state keeper.old).disk_faults (K.state keeper.new).disk_faults ⊎ Rose (K.state keeper.old).line_faults (K.state keeper.new).line_faults }
@@ -39,12 +41,14 @@ fn do_act<K: Keeper>(alloc: Global, keeper: &mut K, act: &Act) -> Result<(), Dev
 /// Acts in their order, which the keeper can take. At a stop, and at an error, what was sent and what the files stand for
 /// are a cut of them. A commit writes at most its bound, and a line nothing; no commit writes that was not begun.
 pub fn keep_acts<K: Keeper>(alloc: Global, keeper: &mut K, acts: &[Act]) -> Result<(), DeviceError>
+    requires ready { K.ready keeper.old }
     requires kept { IsTrue (K.state keeper.old).told → IsKeptBy (K.file keeper.old) (K.state keeper.old) (K.leaves keeper.old) }
     requires can { AreCommittable (K.identity keeper.old) (K.kept keeper.old) acts.now }
+    ensures ready { OnOk result (K.ready keeper.new) }
     ensures identity { K.identity keeper.new ≡ K.identity keeper.old }
     ensures any { WithinActs content_after (K.stands (K.identity keeper.old)) (K.kept keeper.old) acts.now (K.state keeper.old) (K.state keeper.new) (K.leaves keeper.old) (K.leaves keeper.new) }
     ensures content { OnOk result (K.kept keeper.new ≡ content_after (K.kept keeper.old) acts.now) }
-    ensures done { OnOk result (Performed K.fine (K.file keeper.new) acts.now (K.state keeper.old) (K.state keeper.new) (K.leaves keeper.new)) }
+    ensures done { OnOk result (DidActs K.fine (K.file keeper.new) acts.now (K.state keeper.old) (K.state keeper.new) (K.leaves keeper.new)) }
     ensures put { WritesWithin content_after (K.stands (K.identity keeper.old)) (K.kept keeper.old) (acts_most K.most_written (K.identity keeper.old) (K.kept keeper.old)) acts.now (K.state keeper.old) (K.state keeper.new) (K.leaves keeper.new) }
     ensures fine { (IsErrOf result DeviceError.Failed → ⊥) → K.fine (K.state keeper.old) (K.state keeper.new) }
     ensures failed { IsErrOf result DeviceError.Failed → Rose (K.state keeper.old).disk_faults (K.state keeper.new).disk_faults ⊎ Rose (K.state keeper.old).line_faults (K.state keeper.new).line_faults }

@@ -3,7 +3,7 @@ ghost use Rattle.std.specs.Prelude.{◌≡◌, ◌≤◌, ◌+◌, List, ℕ, Is
 ghost use Rattle.kd_device.specs.Device.{State, Rose, Frame, SameNames};
 ghost use Rattle.kd_records.specs.{Identity.{Identity}, Contents.{IsPatch, patched}, declared.content.Content.{Content}, declared.content.Patch.{Patch}, Charge.{total_charge}};
 ghost use Rattle.kdcfile_store.specs.Kept.{LeavesPatched};
-ghost use Rattle.device_acts.specs.{Acting.{GoesOn, IsKeptBy}, Said.{LeavesFront, Said, SaidPart}};
+ghost use Rattle.device_acts.specs.{Acting.{JoinsParts, IsKeptBy, IsOfChanges}, Said.{LeavesFront, Said, SaidPart}};
 
 use kd_device::DeviceError;
 use kd_records::Patch;
@@ -39,13 +39,19 @@ pub trait Keeper {
     /// Which values it borrows, where it does. No call changes that.
     ghost place: { Self → List ℕ };
 
+    /// It can be worked with: it was not given up, as it may be after a commit that answered an error.
+    ghost ready: { Self → Type 0 };
+
     /// Makes these changes, whole or not at all.
     fn commit(&mut self, alloc: Global, patch: &Patch) -> Result<(), DeviceError>
+        requires ready { ready self.old }
         requires kept { IsTrue (state self.old).told → IsKeptBy (file self.old) (state self.old) (leaves self.old) }
         requires patch { IsPatch patch.now }
+        requires changes { IsOfChanges patch.now }
         requires charge_before { total_charge (identity self.old).blksize (kept self.old).items ≤ (identity self.old).pages }
         requires charge_after { total_charge (identity self.old).blksize (patched (kept self.old) patch.now).items ≤ (identity self.old).pages }
 
+        ensures ready { OnOk result (ready self.new) }
         ensures content { OnOk result (kept self.new ≡ patched (kept self.old) patch.now) }
         ensures identity { identity self.new ≡ identity self.old }
         ensures kept { OnOk result (IsTrue (state self.old).told → IsKeptBy (file self.new) (state self.new) (leaves self.new)) }
@@ -63,6 +69,7 @@ pub trait Keeper {
 
     /// Sends a piece. A stop within it, and an error, sends a front of it.
     fn say(&mut self, piece: &[u8]) -> Result<(), DeviceError>
+        ensures ready { ready self.old → ready self.new }
         ensures identity { identity self.new ≡ identity self.old }
         ensures content { kept self.new ≡ kept self.old }
         ensures kept { IsTrue (state self.old).told → IsKeptBy (file self.old) (state self.old) (leaves self.old) → IsKeptBy (file self.new) (state self.new) (leaves self.new) }
@@ -80,7 +87,7 @@ pub trait Keeper {
     ghost file_stands: { (keeper : Self) (c : List ℕ) → file keeper c → stands (identity keeper) (kept keeper) c };
 
     /// Several calls are fine where each is.
-    ghost fine_goes: { GoesOn fine };
+    ghost fine_goes: { JoinsParts fine };
 
     /// A stop now may leave some image.
     ghost left_now: { (keeper : Self) → IsTrue (state keeper).told → (c : List ℕ) × leaves keeper (state keeper).moment c (state keeper).sent };

@@ -1,5 +1,5 @@
 //! A device and its store as one keeper.
-ghost use Rattle.std.specs.Prelude.{[], ◌∷◌};
+ghost use Rattle.std.specs.Prelude.{[], ◌∷◌, ⊤};
 ghost use Rattle.kd_device.specs.Device.{SameFaults};
 ghost use Rattle.device_acts.specs.{Acting.{OwnFile}, SingleLaws.{faults_go}};
 
@@ -35,6 +35,8 @@ impl<D: Device, S: Store<D>> Keeper for SingleFile<'_, D, S> {
     ghost fine = { SameFaults };
 
     ghost place = { λ k. k.device.ghost_name ∷ k.store.ghost_name ∷ [] };
+
+    ghost ready = { λ k. ⊤ };
 
     fn commit(&mut self, alloc: Global, patch: &Patch) -> Result<(), DeviceError> {
         self.store.commit(alloc, self.device, patch)

@@ -1,6 +1,6 @@
 //! A warm start: the tables that a KDCFILE keeps for the application of two texts, or the reason why there are none.
 //!
-//! It stands on kdcfile_store, application_check, record_codec and table_fit. To the program, its definitions say which
+//! It stands on kdcfile_store, application_types, record_codec and table_fit. To the program, its definitions say which
 //! tables the bytes of a file stand for and which files an application starts from. Its contract says that
 //! `fingerprint_of` is the SHA-256 digest of a definition and its units, and that `open_tables` makes an empty file,
 //! answers the tables of a file that is of the same texts and whose tables suit the generation, and refuses every other

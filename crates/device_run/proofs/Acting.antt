@@ -16,7 +16,7 @@ use Rattle.laws_of_states.specs.Keeping.{HasFacts}
 use Rattle.laws_of_states.specs.Steps.{CommitsOnce, StepsMakeTheirTables}
 use Rattle.monitor_core.specs.CoreSteps.{durable_of}
 use Rattle.monitor_core.specs.CoreValue.{CoreValue}
-use Rattle.device_acts.specs.Acting.{GoesOn, LineOrDisk, Performed, WithinActs, WritesWithin, acts_most, content_after}
+use Rattle.device_acts.specs.Acting.{JoinsParts, LineOrDisk, DidActs, WithinActs, WritesWithin, acts_most, content_after}
 use Rattle.device_acts.specs.ActingLaws.{none_within}
 use Rattle.device_acts.specs.Causes.{of_device}
 use Rattle.device_acts.specs.WritingLaws.{none_begun, quiet_begun, writes_most}
@@ -35,7 +35,7 @@ ready_stands stands fingerprint c j x file a la means ready told image left = ro
 
 module _ (stands : Identity → Content → List ℕ → Type 0) (most : Identity → Patch → ℕ) (fingerprint : List ℕ) (c : CoreValue) (steps : List ScriptStep) (a : State) (la : ℕ → List ℕ → List ℕ → Type 0) (rests : IsTrue a.told → (image : List ℕ) → la a.moment image a.sent → StandsForRows stands (identity_of fingerprint c) (durable_of c) image) where
   -- memory ran out before anything was done
-  pub nothing_done : (fine : State → State → Type 0) → GoesOn fine → (place : List ℕ) → FailedSteps stands most fine fingerprint place place c steps opening.Memory a a la la
+  pub nothing_done : (fine : State → State → Type 0) → JoinsParts fine → (place : List ℕ) → FailedSteps stands most fine fingerprint place place c steps opening.Memory a a la la
   nothing_done fine on place = record {
     within = none_within tables_after tables_go (StandsForRows stands (identity_of fingerprint c)) (durable_of c) (acts_of steps) a la;
     put = λ told image left. none_begun tables_after tables_go (StandsForRows stands (identity_of fingerprint c)) (durable_of c) (commits_most_with most (identity_of fingerprint c)) (acts_of steps) a a image (omega arith) refl (rests told image left);
@@ -95,7 +95,7 @@ module _ (fingerprint : List ℕ) (c : CoreValue) (j : Identity) (x : Content) (
     same_place = same_place;
   }
 
-  pub step_took : (IsTrue b.told → (image : List ℕ) × lb b.moment image b.sent) → StepsMakeTheirTables → CommitsOnce c.application c.state step → (d : CoreValue) (k : Identity) (y : Content) (file : List ℕ → Type 0) → d.application ≡ c.application → HasFacts d.application d.state → d.state ≡ step.after → k ≡ j → y ≡ content_after x acts → Performed fine file acts a b lb
+  pub step_took : (IsTrue b.told → (image : List ℕ) × lb b.moment image b.sent) → StepsMakeTheirTables → CommitsOnce c.application c.state step → (d : CoreValue) (k : Identity) (y : Content) (file : List ℕ → Type 0) → d.application ≡ c.application → HasFacts d.application d.state → d.state ≡ step.after → k ≡ j → y ≡ content_after x acts → DidActs fine file acts a b lb
       → (m n : ℕ) → (m + commits_in acts < 2 ^ 64 → n ≡ m + commits_in acts) → TookSteps stands most fine fingerprint fingerprint place place' c (step ∷ []) d k y file a b la lb m n
   step_took left make once d k y file app facts after identity content done m n counted = record {
     within = here;

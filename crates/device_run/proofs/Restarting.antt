@@ -14,7 +14,7 @@ use Rattle.abstract_monitor.specs.Commands.{ScriptStep, acts_of, command_of, sta
 use Rattle.abstract_monitor.specs.declared.command.Command.TheVariants.{Restart}
 use Rattle.abstract_monitor.specs.Endings.{durable}
 use Rattle.abstract_monitor.specs.Lines.{restart_line}
-use Rattle.application_check.specs.Soundness.{AreLimits}
+use Rattle.application_types.specs.Soundness.{AreLimits}
 use Rattle.abstract_monitor.specs.State.{Application}
 use Rattle.abstract_monitor.specs.Trace.{tables_after, bytes_of}
 use Rattle.laws_of_states.specs.Applications.{IsApplication}
@@ -22,7 +22,7 @@ use Rattle.laws_of_states.specs.Keeping.{HasFacts}
 use Rattle.record_codec.specs.Records.{content_of_tables}
 use Rattle.device_acts.specs.Stands.{AreTables, identity_for}
 use Rattle.monitor_core.specs.CoreValue.{CoreValue}
-use Rattle.device_acts.specs.Acting.{GoesOn, IsCutOf, IsKeptBy, Performed, WithinActs}
+use Rattle.device_acts.specs.Acting.{JoinsParts, IsCutOf, IsKeptBy, DidActs, WithinActs}
 use Rattle.monitor_core.specs.CoreSteps.{durable_of}
 use Rattle.device_run.specs.Running.{identity_of}
 use Rattle.device_run.specs.Keeping.{DidSteps, IsAgain, IsRunningWith, KeepsSuited, Reopening, StandsForRows, WithinStepsWith}
@@ -100,7 +100,7 @@ module _ (stands : Identity → Content → List ℕ → Type 0) (fingerprint : 
         quiet = λ told lines. (still told).disk;
       }
 
-  module _ (fine : State → State → Type 0) (on : GoesOn fine) (next : CoreValue) (k : Identity) (y : Content) (file : List ℕ → Type 0) (begun : IsAgain fine fingerprint c next k y file a b lb) (d : State) (ld : ℕ → List ℕ → List ℕ → Type 0) where
+  module _ (fine : State → State → Type 0) (on : JoinsParts fine) (next : CoreValue) (k : Identity) (y : Content) (file : List ℕ → Type 0) (begun : IsAgain fine fingerprint c next k y file a b lb) (d : State) (ld : ℕ → List ℕ → List ℕ → Type 0) where
     told_before : IsTrue b.told → IsTrue a.told
     told_before told = subst IsTrue frame.told told
 
@@ -130,13 +130,13 @@ module _ (stands : Identity → Content → List ℕ → Type 0) (fingerprint : 
 
     pub did_restart : (k' : Identity) (y' : Content) (file' : List ℕ → Type 0) → k' ≡ k → y' ≡ y → (IsTrue b.told → IsKeptBy file b lb → IsKeptBy file' d ld) → (IsTrue b.told → Said restart_line b d) → fine b d → DidSteps fine fingerprint c (again c ∷ []) next k' y' file' a d ld
     did_restart k' y' file' same_identity same_content kept said_all went =
-        let line : Performed fine file' (Emit restart_line ∷ []) b d ld = line_sent fine file' b d ld (Emit restart_line) restart_line refl (λ told. kept told (begun.kept (told_before told))) said_all went in
+        let line : DidActs fine file' (Emit restart_line ∷ []) b d ld = line_sent fine file' b d ld (Emit restart_line) restart_line refl (λ told. kept told (begun.kept (told_before told))) said_all went in
         record {
           application = begun.application;
           running = subst (λ (z : Content). IsRunningWith fingerprint next k' z) (sym same_content) (subst (λ (i : Identity). IsRunningWith fingerprint next i y) (sym same_identity) begun.running);
           state = λ told. begun.state told ∙ sym (state_again c);
           tables = λ told. begun.tables told ∙ sym (line_makes_nothing (durable_of c) restart_line) ∙ ap (λ (l : List Act). tables_after (durable_of c) l) (sym (acts_again c));
-          acts = subst (λ (l : List Act). Performed fine file' l a d ld) (sym (acts_again c)) (record {
+          acts = subst (λ (l : List Act). DidActs fine file' l a d ld) (sym (acts_again c)) (record {
             rest = λ told. line.rest (told_after a b frame told);
             sent = λ told. line.sent (told_after a b frame told) ∙ ap (λ (l : List ℕ). l ++ bytes_of (Emit restart_line ∷ [])) (still told).sent;
             calls = on.after a b d begun.calls line.calls;

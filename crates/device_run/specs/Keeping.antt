@@ -5,7 +5,7 @@ use Rattle.kd_records.specs.Identity.{Identity}
 use Rattle.kd_records.specs.declared.content.Content.{Content}
 use Rattle.kd_records.specs.declared.content.Patch.{Patch}
 use Rattle.kdcs_types.specs.Tables.{TableRows}
-use Rattle.application_check.specs.Soundness.{AreLimits}
+use Rattle.application_types.specs.Soundness.{AreLimits}
 use Rattle.application_types.specs.Generation.{Generated}
 use Rattle.abstract_monitor.specs.declared.command.Command.{Command}
 use Rattle.abstract_monitor.specs.Commands.{ScriptStep, acts_of, started, state_after}
@@ -17,7 +17,7 @@ use Rattle.record_codec.specs.Records.{content_of_tables}
 use Rattle.device_acts.specs.Stands.{AreTables, identity_for}
 use Rattle.monitor_core.specs.CoreSteps.{durable_of}
 use Rattle.monitor_core.specs.CoreValue.{CoreValue}
-use Rattle.device_acts.specs.Acting.{IsKeptBy, Performed, WithinActs, WritesWithin}
+use Rattle.device_acts.specs.Acting.{IsKeptBy, DidActs, WithinActs, WritesWithin}
 use Rattle.device_acts.specs.Said.{SameDisk}
 use Rattle.device_run.specs.Running.{StoppedIn, commits_most_with, identity_of}
 
@@ -58,7 +58,7 @@ pub record DidSteps (fine : State → State → Type 0) (fingerprint : List ℕ)
   pub running : IsRunningWith fingerprint d j x
   pub state : IsTrue a.told → d.state ≡ state_after c.state steps
   pub tables : IsTrue a.told → durable_of d ≡ tables_after (durable_of c) (acts_of steps)
-  pub acts : Performed fine file (acts_of steps) a b lb
+  pub acts : DidActs fine file (acts_of steps) a b lb
 
 -- nothing was sent, what is seen of the files is the same, and a stop leaves none but these images
 pub record Reopening (file : List ℕ → Type 0) (a b : State) (la lb : ℕ → List ℕ → List ℕ → Type 0) : Type 0 where

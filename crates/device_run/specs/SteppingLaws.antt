@@ -14,7 +14,7 @@ use Rattle.laws_of_states.specs.Keeping.{HasFacts}
 use Rattle.laws_of_states.specs.Steps.{CommitsOnce, StepsMakeTheirTables}
 use Rattle.laws_of_runs.specs.HistoryLaws.{after_one}
 use Rattle.laws_of_runs.specs.ListsLaws.{after_both, tables_both}
-use Rattle.application_check.specs.Soundness.{AreLimits}
+use Rattle.application_types.specs.Soundness.{AreLimits}
 use Rattle.abstract_monitor.specs.State.{Application, State as MonitorState}
 use Rattle.abstract_monitor.specs.Commands.{ScriptStep, acts_of, state_after}
 use Rattle.abstract_monitor.specs.Endings.{durable}
@@ -23,7 +23,7 @@ use Rattle.record_codec.specs.Records.{content_of_tables}
 use Rattle.device_acts.specs.Stands.{AreTables, identity_for}
 use Rattle.monitor_core.specs.CoreValue.{CoreValue}
 use Rattle.device_acts.specs.Storing.{AreStorable}
-use Rattle.device_acts.specs.Acting.{GoesOn, Performed, WithinActs, WritesBegun, WritesWithin, acts_most, content_after, AreCommittable}
+use Rattle.device_acts.specs.Acting.{JoinsParts, DidActs, WithinActs, WritesBegun, WritesWithin, acts_most, content_after, AreCommittable}
 use Rattle.monitor_core.specs.CoreSteps.{durable_of}
 use Rattle.device_run.specs.Running.{identity_of, commits_most_with}
 use Rattle.device_run.specs.Keeping.{DidSteps, IsRunningWith, KeepsRows, RanWith, StandsForRows, StepsWriteWith, WithinStepsWith}
@@ -78,7 +78,7 @@ module _ (fingerprint : List ℕ) (c : CoreValue) (j : Identity) (x : Content) (
       subst (λ (l : List Act). WritesBegun tables_after (StandsForRows stands i) (durable_of c) (commits_most_with most i) l a b image) (sym (acts_of_one step)) (commits_written most i written bounded stands (durable_of c) step.acts a b image can.running.keeps.tables can.storable at_acts)
 
   pub did_step : (fine : State → State → Type 0) → StepsMakeTheirTables → CommitsOnce c.application c.state step → (d : CoreValue) (k : Identity) (y : Content) (file : List ℕ → Type 0) (a b : State) (lb : ℕ → List ℕ → List ℕ → Type 0) → d.application ≡ c.application → HasFacts d.application d.state → d.state ≡ step.after
-      → k ≡ j → y ≡ content_after x acts → Performed fine file acts a b lb → DidSteps fine fingerprint c (step ∷ []) d k y file a b lb
+      → k ≡ j → y ≡ content_after x acts → DidActs fine file acts a b lb → DidSteps fine fingerprint c (step ∷ []) d k y file a b lb
   did_step fine make once d k y file a b lb app facts after identity content sent =
       let i = identity_of fingerprint c in
       let made = make c.application c.state step can.running.facts.1.order (subst (λ (s : MonitorState). IsSortedTables s.tables) after facts.1.order) once in
@@ -99,7 +99,7 @@ module _ (fingerprint : List ℕ) (c : CoreValue) (j : Identity) (x : Content) (
         };
         state = λ told. after ∙ sym (after_one c.state step);
         tables = λ told. sym tables_are ∙ ap (λ (l : List Act). tables_after (durable_of c) l) (sym (acts_of_one step));
-        acts = subst (λ (l : List Act). Performed fine file l a b lb) (can.same ∙ sym (acts_of_one step)) sent;
+        acts = subst (λ (l : List Act). DidActs fine file l a b lb) (can.same ∙ sym (acts_of_one step)) sent;
       }
 
 -- ---- steps so far, of all
@@ -110,7 +110,7 @@ pub record Stepping (stands : Identity → Content → List ℕ → Type 0) (mos
   pub did : DidSteps fine fingerprint c done d j x file a b lb
   pub put : IsTrue a.told → b.put ≤ a.put + commits_most_with most (identity_of fingerprint c) (acts_of done)
 
-module _ (stands : Identity → Content → List ℕ → Type 0) (most : Identity → Patch → ℕ) (fine : State → State → Type 0) (on : GoesOn fine) (fingerprint : List ℕ) (c d : CoreValue) (j : Identity) (x : Content) (file : List ℕ → Type 0) (all done here rest : List ScriptStep) (a b e : State) (la lb le : ℕ → List ℕ → List ℕ → Type 0) (run : Stepping stands most fine fingerprint c d j x file all done a b la lb) (split : IsTrue a.told → all ≡ done ++ (here ++ rest)) (step : WithinStepsWith stands fingerprint d here b e lb le) where
+module _ (stands : Identity → Content → List ℕ → Type 0) (most : Identity → Patch → ℕ) (fine : State → State → Type 0) (on : JoinsParts fine) (fingerprint : List ℕ) (c d : CoreValue) (j : Identity) (x : Content) (file : List ℕ → Type 0) (all done here rest : List ScriptStep) (a b e : State) (la lb le : ℕ → List ℕ → List ℕ → Type 0) (run : Stepping stands most fine fingerprint c d j x file all done a b la lb) (split : IsTrue a.told → all ≡ done ++ (here ++ rest)) (step : WithinStepsWith stands fingerprint d here b e lb le) where
   told_then : IsTrue a.told → IsTrue b.told
   told_then told = rw run.within.frame.told told
 

@@ -17,19 +17,19 @@ use Rattle.laws_of_states.specs.StepsLaws.{commits_of_both}
 use Rattle.laws_of_runs.specs.HistoryLaws.{after_none}
 use Rattle.monitor_core.specs.CoreSteps.{durable_of}
 use Rattle.monitor_core.specs.CoreValue.{CoreValue}
-use Rattle.device_acts.specs.Acting.{GoesOn}
+use Rattle.device_acts.specs.Acting.{JoinsParts}
 use Rattle.device_acts.specs.ActingLaws.{halts_within, running_start, running_within}
 use Rattle.device_acts.specs.Stands.{identity_for}
 use Rattle.device_acts.specs.WritingLaws.{all_begun}
 use Rattle.device_acts.specs.declared.warm_start.error.OpenError.{OpenError}
-use Rattle.script_run.specs.Sinks.{GoesOn as StepsGoOn}
+use Rattle.monitor_core.specs.Sinks.{SinkGoesOn as StepsGoOn}
 use Rattle.device_run.specs.Running.{identity_of, commits_most_with}
 use Rattle.device_run.specs.Keeping.{DidSteps, IsRunningWith, StandsForRows, StepsWriteWith, WithinStepsWith}
 use Rattle.device_run.specs.Storing.{FailedSteps, IsReadyWith, TookSteps}
 use Rattle.device_run.specs.TablesLaws.{tables_go}
 use Rattle.device_run.specs.SteppingLaws.{Stepping, acts_both, rows_stand, stepping_more, stepping_within, stepping_writes}
 
-module _ (stands : Identity → Content → List ℕ → Type 0) (most : Identity → Patch → ℕ) (fine : State → State → Type 0) (on : GoesOn fine) where
+module _ (stands : Identity → Content → List ℕ → Type 0) (most : Identity → Patch → ℕ) (fine : State → State → Type 0) (on : JoinsParts fine) where
   -- what some steps write that are done
   pub steps_write : (fingerprint : List ℕ) (c d : CoreValue) (steps : List ScriptStep) (j : Identity) (x : Content) (file : List ℕ → Type 0) (a b : State) (lb : ℕ → List ℕ → List ℕ → Type 0) → ((image : List ℕ) → file image → stands j x image) → DidSteps fine fingerprint c steps d j x file a b lb
       → (IsTrue a.told → b.put ≤ a.put + commits_most_with most (identity_of fingerprint c) (acts_of steps)) → StepsWriteWith stands most fingerprint c steps a b lb
@@ -65,7 +65,7 @@ module _ (stands : Identity → Content → List ℕ → Type 0) (most : Identit
   counted_more : (m n k x y : ℕ) → n ≡ m + x → k ≡ n + y → k ≡ m + (x + y)
   counted_more m n k x y first next = omega (arith, first, next)
 
-  module _ {S : Type 0} (fingerprint place : S → List ℕ) (identity : S → Identity) (kept : S → Content) (file : S → List ℕ → Type 0) (state : S → State) (leaves : S → ℕ → List ℕ → List ℕ → Type 0) (commits : S → ℕ) where
+  module _ {S : Type 0} (ready : S → Type 0) (fingerprint place : S → List ℕ) (identity : S → Identity) (kept : S → Content) (file : S → List ℕ → Type 0) (state : S → State) (leaves : S → ℕ → List ℕ → List ℕ → Type 0) (commits : S → ℕ) where
     abbrev Took : S → CoreValue → List ScriptStep → S → CoreValue → Type 0
     Took s c steps t d = TookSteps stands most fine (fingerprint s) (fingerprint t) (place s) (place t) c steps d (identity t) (kept t) (file t) (state s) (state t) (leaves s) (leaves t) (commits s) (commits t)
 
@@ -127,15 +127,18 @@ module _ (stands : Identity → Content → List ℕ → Type 0) (most : Identit
       same_place = here.same_place ∙ first.same_place;
     }
 
-    pub storing_goes : StepsGoOn (λ s c. IsReadyWith (fingerprint s) c (identity s) (kept s) (file s) (state s) (leaves s)) (λ s. IsTrue (state s).told) Took Failing
+    pub storing_goes : StepsGoOn (λ s c. ready s × IsReadyWith (fingerprint s) c (identity s) (kept s) (file s) (state s) (leaves s)) (λ s. IsTrue (state s).told) (λ s c xs t d. ready t × Took s c xs t d) Failing
     storing_goes = record {
-      none = λ s c ready. took_nothing (fingerprint s) (place s) c (identity s) (kept s) (file s) (state s) (leaves s) (commits s) ready;
-      application = λ s t c d xs took. took.did.application;
-      state = λ s t c d xs took told. took.did.state told;
-      again = λ s t c d xs ready took. record {
-        running = subst (λ f. IsRunningWith f d (identity t) (kept t)) (sym took.same_fingerprint) took.did.running;
-        kept = λ told. took.did.acts.rest (subst IsTrue took.within.frame.told told);
-      };
-      more = took_more;
-      fails = took_fails;
+      none = λ s c now. (now.0, took_nothing (fingerprint s) (place s) c (identity s) (kept s) (file s) (state s) (leaves s) (commits s) now.1);
+      application = λ s t c d xs took. took.1.did.application;
+      state = λ s t c d xs took told. took.1.did.state told;
+      again = λ s t c d xs now took. (
+        took.0,
+        record {
+          running = subst (λ f. IsRunningWith f d (identity t) (kept t)) (sym took.1.same_fingerprint) took.1.did.running;
+          kept = λ told. took.1.did.acts.rest (subst IsTrue took.1.within.frame.told told);
+        },
+      );
+      more = λ s t u c d e xs ys all first next is. (next.0, took_more s t u c d e xs ys all first.1 next.1 is);
+      fails = λ s t u c d xs ys rest all e first here is. took_fails s t u c d xs ys rest all e first.1 here is;
     }

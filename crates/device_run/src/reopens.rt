@@ -7,7 +7,7 @@ ghost use Rattle.kdcs_types.specs.Tables.{TableRows};
 ghost use Rattle.device_acts.specs.Acting.{IsKeptBy};
 ghost use Rattle.device_run.specs.{Keeping.{KeepsSuited, Reopening}, SingleLaws.{single_bound}};
 
-use application_check::kdcdef_check::Generation;
+use application_types::generation::Generation;
 use device_acts::warm_start::{OpenError, answers_exclude_each_other, open_tables};
 use device_acts::{Keeper, SingleFile};
 use kd_device::Device;
@@ -28,7 +28,9 @@ pub trait Reopens: Keeper {
         generation: &Generation,
         fingerprint: &[u8; 32],
     ) -> Result<Tables, OpenError>
+        requires ready { Self.ready self.old }
         requires kept { IsTrue (Self.state self.old).told → IsKeptBy (Self.file self.old) (Self.state self.old) (Self.leaves self.old) }
+        ensures ready { OnOk result (Self.ready self.new) }
         ensures tables { IfOk result (λ t. KeepsSuited generation.now fingerprint.now (Self.identity self.new) (Self.kept self.new) t) }
         ensures same { IfOk result (λ t. IsTrue (Self.state self.old).told → (u : TableRows) → KeepsSuited generation.now fingerprint.now (Self.identity self.old) (Self.kept self.old) u → t ≡ u) }
         ensures kept { OnOk result (IsTrue (Self.state self.old).told → IsKeptBy (Self.file self.new) (Self.state self.new) (Self.leaves self.new)) }

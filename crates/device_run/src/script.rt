@@ -7,7 +7,8 @@ ghost use Rattle.abstract_monitor.specs.{Commands.{acts_of}, Trace.{history}};
 ghost use Rattle.laws_of_states.specs.Cut.{commits_in};
 ghost use Rattle.monitor_core.specs.CoreSteps.{turns_of};
 ghost use Rattle.device_acts.specs.Acting.{IsKeptBy, LineOrDisk};
-ghost use Rattle.device_run.specs.{Running.{Ran, IsRunning, StepsWrite, Stops, WithinSteps}, Keeping.{IsRunningWith, RanWith, StepsWriteWith, StopsWith, WithinStepsWith}};
+ghost use Rattle.device_run.specs.Running.{Ran, IsRunning, StepsWrite, Stops, WithinSteps};
+ghost use Rattle.device_run.specs.Keeping.{IsRunningWith, RanWith, StepsWriteWith, StopsWith, WithinStepsWith};
 
 use crate::reopens::Reopens;
 use crate::storing::Storing;
@@ -18,7 +19,7 @@ use kd_device::Device;
 use kdcfile_store::PagedStore;
 use laws_of_states::laws_of_steps::steps_commit_once;
 use monitor_core::Core;
-use script_run::run_script as run_steps;
+use monitor_core::script_run::run_script as run_steps;
 use std::alloc::Global;
 
 /// The commands of a script in their order, from a core whose durable tables the keeper has; its files were made with this
@@ -33,6 +34,7 @@ pub fn run_with<K: Reopens>(
     commands: &[Command],
     done: &mut usize,
 ) -> Result<u64, OpenError>
+    requires ready { K.ready keeper.old }
     requires running { IsRunningWith fingerprint.now core (K.identity keeper.old) (K.kept keeper.old) }
     requires names { IsScriptOf core.application commands.now }
     requires steps { core.steps + sum_by turns_of commands.now ≤ 10 ^ 18 }

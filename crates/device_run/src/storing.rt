@@ -1,9 +1,11 @@
 //! The steps of a script, whose acts are stored and sent.
-ghost use Rattle.std.specs.Prelude.{◌≡◌, ◌∷◌, ℕ, List, IsTrue, IfOk, IsErrOf};
+ghost use Rattle.std.specs.Prelude.{◌≡◌, ◌∷◌, ℕ, List, IsTrue, IfOk, OnOk, IsErrOf};
 ghost use Rattle.kd_device.specs.Device.{Rose, Frame, SameNames};
 ghost use Rattle.device_acts.specs.Acting.{IsKeptBy};
 ghost use Rattle.monitor_core.specs.CoreSteps.{durable_of};
-ghost use Rattle.device_run.specs.{Running.{identity_of, SaysNothing}, Keeping.{IsAgain, IsRunningWith, Reopening, StandsForRows}, Storing.{FailedSteps, IsReadyWith, TookSteps}, StoringLaws.{storing_goes}};
+ghost use Rattle.device_run.specs.Running.{identity_of, SaysNothing};
+ghost use Rattle.device_run.specs.Keeping.{IsAgain, IsRunningWith, Reopening, StandsForRows};
+ghost use Rattle.device_run.specs.{Storing.{FailedSteps, IsReadyWith, TookSteps}, StoringLaws.{storing_goes}};
 
 use crate::commits::count_commits;
 use crate::reopens::Reopens;
@@ -14,7 +16,7 @@ use device_acts::warm_start::OpenError;
 use kdcs_types::Act;
 use laws_of_states::laws_of_steps::steps_commit_once;
 use monitor_core::Core;
-use script_run::Sink;
+use monitor_core::script_run::Sink;
 use std::alloc::Global;
 
 /// A keeper under a script, its files made with this fingerprint, and how many commits it made.
@@ -32,8 +34,10 @@ fn start_again<K: Reopens>(
     core: Core,
     fingerprint: &[u8; 32],
 ) -> Result<Core, OpenError>
+    requires ready { K.ready keeper.old }
     requires running { IsRunningWith fingerprint.now core (K.identity keeper.old) (K.kept keeper.old) }
     requires kept { IsTrue (K.state keeper.old).told → IsKeptBy (K.file keeper.old) (K.state keeper.old) (K.leaves keeper.old) }
+    ensures ready { OnOk result (K.ready keeper.new) }
     ensures again { IfOk result (λ next. IsAgain K.fine fingerprint.now core next (K.identity keeper.new) (K.kept keeper.new) (K.file keeper.new) (K.state keeper.old) (K.state keeper.new) (K.leaves keeper.new)) }
     ensures still { IsTrue (K.state keeper.old).told → Reopening (StandsForRows K.stands (identity_of fingerprint.now core) (durable_of core)) (K.state keeper.old) (K.state keeper.new) (K.leaves keeper.old) (K.leaves keeper.new) }
     ensures fine { (IsErrOf result OpenError.Failed → ⊥) → K.fine (K.state keeper.old) (K.state keeper.new) }
@@ -55,11 +59,11 @@ const RESTARTED: &[u8] = b"RESTART\n";
 impl<K: Reopens> Sink for Storing<'_, K> {
     type Error = OpenError;
 
-    ghost ready = { λ s c. IsReadyWith s.fingerprint.now c (K.identity s.keeper.now) (K.kept s.keeper.now) (K.file s.keeper.now) (K.state s.keeper.now) (K.leaves s.keeper.now) };
+    ghost ready = { λ s c. K.ready s.keeper.now × IsReadyWith s.fingerprint.now c (K.identity s.keeper.now) (K.kept s.keeper.now) (K.file s.keeper.now) (K.state s.keeper.now) (K.leaves s.keeper.now) };
 
     ghost known = { λ s. IsTrue (K.state s.keeper.now).told };
 
-    ghost took = { λ s c steps t d. TookSteps K.stands K.commit_most K.fine s.fingerprint.now t.fingerprint.now (s.keeper.ghost_name ∷ K.place s.keeper.now) (t.keeper.ghost_name ∷ K.place t.keeper.now) c steps d (K.identity t.keeper.now) (K.kept t.keeper.now) (K.file t.keeper.now) (K.state s.keeper.now) (K.state t.keeper.now) (K.leaves s.keeper.now) (K.leaves t.keeper.now) s.commits t.commits };
+    ghost took = { λ s c steps t d. K.ready t.keeper.now × TookSteps K.stands K.commit_most K.fine s.fingerprint.now t.fingerprint.now (s.keeper.ghost_name ∷ K.place s.keeper.now) (t.keeper.ghost_name ∷ K.place t.keeper.now) c steps d (K.identity t.keeper.now) (K.kept t.keeper.now) (K.file t.keeper.now) (K.state s.keeper.now) (K.state t.keeper.now) (K.leaves s.keeper.now) (K.leaves t.keeper.now) s.commits t.commits };
 
     ghost failed = { λ s c steps e t. FailedSteps K.stands K.commit_most K.fine s.fingerprint.now (s.keeper.ghost_name ∷ K.place s.keeper.now) (t.keeper.ghost_name ∷ K.place t.keeper.now) c steps e (K.state s.keeper.now) (K.state t.keeper.now) (K.leaves s.keeper.now) (K.leaves t.keeper.now) };
 
@@ -97,7 +101,7 @@ impl<K: Reopens> Sink for Storing<'_, K> {
         Ok(())
     }
 
-    ghost applies = { λ s c ready. ready.running.application };
+    ghost applies = { λ s c ready. ready.1.running.application };
 
-    ghost goes = { storing_goes K.stands K.commit_most K.fine K.fine_goes (λ s. s.fingerprint.now) (λ s. s.keeper.ghost_name ∷ K.place s.keeper.now) (λ s. K.identity s.keeper.now) (λ s. K.kept s.keeper.now) (λ s. K.file s.keeper.now) (λ s. K.state s.keeper.now) (λ s. K.leaves s.keeper.now) (λ s. s.commits) };
+    ghost goes = { storing_goes K.stands K.commit_most K.fine K.fine_goes (λ s. K.ready s.keeper.now) (λ s. s.fingerprint.now) (λ s. s.keeper.ghost_name ∷ K.place s.keeper.now) (λ s. K.identity s.keeper.now) (λ s. K.kept s.keeper.now) (λ s. K.file s.keeper.now) (λ s. K.state s.keeper.now) (λ s. K.leaves s.keeper.now) (λ s. s.commits) };
 }

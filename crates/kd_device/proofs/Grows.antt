@@ -1,11 +1,11 @@
 -- What a stop may leave after one call more.
-use Rattle.std.proofs.Common.{◌≡◌, ◌≢◌, ◌⊎◌, inl, inr, ⊎_elim, ℕ, zero, suc, ◌+◌, ◌≤◌, min, Bool, true, false, cond, List, [], ◌∷◌, ◌++◌, length, take, Result, Ok, Err, refl, sym, ap, subst, ◌∙◌, arith}
-use Rattle.std.proofs.Common.{length-append}
+use Rattle.std.proofs.Common.{◌≡◌, ◌≢◌, ◌⊎◌, ℕ, zero, suc, ◌+◌, ◌≤◌, min, Bool, true, false, cond, List, [], ◌∷◌, ◌++◌, length, take, Result, Ok, Err}
+use Rattle.std.proofs.Common.{inl, inr, ⊎_elim, refl, sym, ap, subst, ◌∙◌, arith, length-append}
 use Rattle.std.specs.Prelude.{is_ok, nat_eq, OnOk, IsTrue}
 use Rattle.std.proofs.lemmas.List.{take_all, append-nil}
 use Rattle.std.proofs.lemmas.Bool.{eq-eqb, eqb-true, false_from_ne_true}
 use Rattle.kd_device.specs.Device.{Torn, LeavesOnly, Now, Quiet, Writes, Emits, Only, written}
-use Rattle.kd_device.specs.History.{Event, Wrote, Synced, Emitted, Disk, Moment, at_first, is_on, moved, step, after, Torns, Stands, AtRest, Within, Left, Since, put_once, put_by}
+use Rattle.kd_device.specs.History.{Event, Wrote, Synced, Emitted, Disk, Moment, at_first, is_on, moved, step, after, Torns, StopLeaves, AtRest, Within, Left, Since, put_once, put_by}
 use Rattle.kd_device.specs.HistoryLaws.{now_to, now_from, has_bytes}
 use Rattle.kd_device.specs.Recording.{Recording, moment_of, disk_of, names_of, seen, left_by, with_event}
 
@@ -78,8 +78,8 @@ named_other j i ns name off = names_push j ns (i, name) ∙ ap (λ (b : Bool). n
 
 -- what a stop leaves of all disks, with this image of the i-th
 pub record ImagesBy (i : ℕ) (L : List ℕ → (ℕ → Disk) → Type 0) : Type 0 where
-  pub own : (c : List ℕ) (ds : ℕ → Disk) → L c ds → Stands (ds i) c
-  pub other_image : (c x : List ℕ) (ds es : ℕ → Disk) → ((j : ℕ) → j ≢ i → es j ≡ ds j) → L c ds → Stands (es i) x → L x es
+  pub own : (c : List ℕ) (ds : ℕ → Disk) → L c ds → StopLeaves (ds i) c
+  pub other_image : (c x : List ℕ) (ds es : ℕ → Disk) → ((j : ℕ) → j ≢ i → es j ≡ ds j) → L c ds → StopLeaves (es i) x → L x es
 
 abbrev pub leaves_by : (List ℕ → (ℕ → Disk) → Type 0) → Recording → ℕ → List ℕ → List ℕ → Type 0
 leaves_by L r t c out = left_by (L c) r t out
@@ -151,12 +151,12 @@ module _ (i : ℕ) (L : List ℕ → (ℕ → Disk) → Type 0) (by : ImagesBy i
   others e off s j ne = sym (ap (λ (b : Bool). cond b (moved e (s.disk j)) (s.disk j)) (off j ne))
 
   -- what a stop after a call on the disk leaves of it
-  rest_of : (e : Event) (is_after : m' ≡ with_event m e k) → is_on i e ≡ true → (c out : List ℕ) → leaves_by L m' (length m'.events) c out → Stands (moved e (disk_of i m)) c
+  rest_of : (e : Event) (is_after : m' ≡ with_event m e k) → is_on i e ≡ true → (c out : List ℕ) → leaves_by L m' (length m'.events) c out → StopLeaves (moved e (disk_of i m)) c
   rest_of e is_after on c out left =
-      subst (λ (x : Disk). Stands x c) (ap (λ (b : Bool). cond b (moved e (disk_of i m)) (disk_of i m)) on) (by.own c (step (moment_of m) e).disk (now_is m e m' k is_after (L c) out left).0)
+      subst (λ (x : Disk). StopLeaves x c) (ap (λ (b : Bool). cond b (moved e (disk_of i m)) (disk_of i m)) on) (by.own c (step (moment_of m) e).disk (now_is m e m' k is_after (L c) out left).0)
 
   -- another image of it, which a stop before the call could leave
-  was : (e : Event) (is_after : m' ≡ with_event m e k) → ((j : ℕ) → j ≢ i → is_on j e ≡ false) → (c x out : List ℕ) → leaves_by L m' (length m'.events) c out → Stands (disk_of i m) x → leaves_by L m (length m.events) x (moment_of m).sent
+  was : (e : Event) (is_after : m' ≡ with_event m e k) → ((j : ℕ) → j ≢ i → is_on j e ≡ false) → (c x out : List ℕ) → leaves_by L m' (length m'.events) c out → StopLeaves (disk_of i m) x → leaves_by L m (length m.events) x (moment_of m).sent
   was e is_after off c x out left stands =
       before m e m' k is_after (L x) (moment_of m).sent (by.other_image c x (step (moment_of m) e).disk (moment_of m).disk (others e off (moment_of m)) (now_is m e m' k is_after (L c) out left).0 stands) refl
 
@@ -185,7 +185,7 @@ module _ (i : ℕ) (L : List ℕ → (ℕ → Disk) → Type 0) (by : ImagesBy i
         keeps = λ t c out le left. keeps m e m' k is_after (L c) t out le left;
       }
 
-  synced_stop : (x : Disk) (done : Bool) (c : List ℕ) → Stands x x.bytes → Stands (moved (Synced i done) x) c → Stands x c
+  synced_stop : (x : Disk) (done : Bool) (c : List ℕ) → StopLeaves x x.bytes → StopLeaves (moved (Synced i done) x) c → StopLeaves x c
   synced_stop x true c has rest = subst (λ (b : List ℕ). Torns x.pending x.base b) (sym rest) has
   synced_stop x false c has rest = rest
 

@@ -1,19 +1,12 @@
 -- A half in use, after one call more.
-use Rattle.std.proofs.Common.{◌≡◌, ◌≤◌, ℕ, List, Result, sym, subst}
+use Rattle.std.proofs.Common.{◌≡◌, ℕ, List, Result, sym, subst}
 use Rattle.std.specs.Prelude.{IsTrue}
 use Rattle.kd_device.specs.Device.{Frame, Quiet, Writes, Emits}
 use Rattle.kd_device.specs.declared.half.Half.{Half}
 use Rattle.kd_device.specs.Twin.{Both, other, disk_of, half_state, slice}
-use Rattle.kd_device.specs.Apart.{SentNow, Earlier, Parted, Apart, IsSince}
+use Rattle.kd_device.specs.Apart.{SentAt, EarlierAt, SentNow, Earlier, Parted, Apart, IsSince}
 use Rattle.kd_device.specs.HalfLaws.{sent_half, earlier_half}
 use Rattle.kd_device.specs.ApartLaws.{quiet_apart, writes_apart, emits_apart, since_then}
-
--- the laws of a twin at one moment
-abbrev pub SentAt : Both → (ℕ → List ℕ → List ℕ → List ℕ → Type 0) → Type 0
-SentAt b l = (c d out : List ℕ) → IsTrue b.told → l b.moment c d out → out ≡ b.sent
-
-abbrev pub EarlierAt : Both → (ℕ → List ℕ → List ℕ → List ℕ → Type 0) → Type 0
-EarlierAt b l = (t u : ℕ) (c d out : List ℕ) → IsTrue b.told → t ≤ u → l u c d out → l t c d out
 
 sent_is : (half : Half) (b : Both) (l : ℕ → List ℕ → List ℕ → List ℕ → Type 0) → SentAt b l → IsTrue b.told → SentNow half b l
 sent_is half b l sent told = sent_half half b l (λ c d out. sent c d out told)

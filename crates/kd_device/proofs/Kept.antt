@@ -1,7 +1,8 @@
 -- One call more of what is kept.
-use Rattle.std.proofs.Common.{◌≡◌, ◌≢◌, ℕ, ◌+◌, ◌≤◌, ◌<◌, List, [], ◌∷◌, ◌++◌, length, take, drop, map, get_or, set, Bool, true, false, cond, refl, sym, ap, ◌∙◌, arith, length-append, inl, inr, suc, subst}
+use Rattle.std.proofs.Common.{◌≡◌, ◌≢◌, ℕ, suc, ◌+◌, ◌≤◌, ◌<◌, List, [], ◌∷◌, ◌++◌, length, take, drop, get_or, set, Bool, true, false, cond}
+use Rattle.std.proofs.Common.{refl, sym, ap, subst, ◌∙◌, inl, inr, arith, length-append}
 use Rattle.std.specs.Prelude.{nat_eq}
-use Rattle.std.proofs.lemmas.List.{take-append-le, drop-append-le, take_all, drop_at, length-drop, get_or-map, get_or-set_same, get_or-set_other, length-set, length-map, map-set}
+use Rattle.std.proofs.lemmas.List.{take-append-le, drop-append-le, take_all, drop_at, length-drop, map_push, get_or-map, get_or-set_same, get_or-set_other, length-set, length-map, map-set}
 use Rattle.std.proofs.lemmas.Bool.{eqb-true, eqb-false, cases_Bool}
 use Rattle.std.proofs.Math.Seq.{map-set_same}
 use Rattle.kd_device.specs.Device.{written}
@@ -9,11 +10,9 @@ use Rattle.kd_device.specs.declared.call.Span.{Span}
 use Rattle.kd_device.specs.declared.call.Call.{Call}
 use Rattle.kd_device.specs.declared.call.Call.TheVariants.{Write, Sync, Emit}
 use Rattle.kd_device.specs.History.{Event, Wrote, Synced, Emitted, Disk, Moment, at_first, moved, step, after}
-use Rattle.kd_device.specs.Recording.{FileNow, Recording, piece, event, events, kept_name, kept_names, Fits, IsInside, AllInside, AllFit, IsBehind, starts_of, bytes_of, ends_of, AreAsMade, IsKept, HaveRoom, SameFiles}
+use Rattle.kd_device.specs.Recording.{FileNow, piece, event, events, kept_name, kept_names, Fits, IsInside, AllInside, AllFit, IsBehind}
+use Rattle.kd_device.specs.Recording.{starts_of, bytes_of, ends_of, AreAsMade, IsRecording, HaveRoom, SameFiles}
 use Rattle.kd_device.proofs.Grows.{after_push}
-
-pub spare_same : (a b : Recording) → a ≡ b → (a.spare_calls ≡ b.spare_calls) × (a.spare_bytes ≡ b.spare_bytes) × (a.spare_end ≡ b.spare_end)
-spare_same a b same = (ap (λ (r : Recording). r.spare_calls) same, ap (λ (r : Recording). r.spare_bytes) same, ap (λ (r : Recording). r.spare_end) same)
 
 piece_same : (kept more : List ℕ) (span : Span) → Fits (length kept) span → piece (kept ++ more) span ≡ piece kept span
 piece_same kept more span le =
@@ -54,10 +53,6 @@ fit_push : (n : ℕ) (spans : List (ℕ × Span)) (x : ℕ × Span) → AllFit n
 fit_push n [] x h i = (i, tt)
 fit_push n (y ∷ spans) x h i = (h.0, fit_push n spans x h.1 i)
 
-map_push : {A B : Type 0} (f : A → B) (xs : List A) (x : A) → map f (xs ++ x ∷ []) ≡ map f xs ++ f x ∷ []
-map_push f [] x = refl
-map_push f (y ∷ xs) x = rw (map_push f xs x) refl
-
 -- the bytes after those that were kept
 pub last_piece : (kept more : List ℕ) (span : Span) → IsBehind kept more span → piece (kept ++ more) span ≡ more
 last_piece kept more span behind = rw (behind.from, behind.len) (ap (λ (l : List ℕ). take (length more) l) (drop_at kept more (length kept) refl) ∙ take_all (length more) more (omega arith))
@@ -87,7 +82,7 @@ module _ (kept more : List ℕ) (calls : List Call) (spans : List (ℕ × Span))
     events_are = rw (adds) (map_push (event kept') calls x ∙ ap (λ (es : List Event). es ++ event kept' x ∷ []) events_stay ∙ ap (λ (y : Event). events kept calls ++ y ∷ []) (ap (λ (l : List ℕ). event l x) keeps ∙ is))
 
     pub kept_push : (files files' : List FileNow) (sent sent' : List ℕ) → starts_of files' ≡ starts_of files → IsInside (length kept') x
-        → AreAsMade files' sent' (step (after (at_first (starts_of files)) (events kept calls)) e) → IsKept files' sent' kept' calls' spans
+        → AreAsMade files' sent' (step (after (at_first (starts_of files)) (events kept calls)) e) → IsRecording files' sent' kept' calls' spans
     kept_push files files' sent sent' starts i made = record {
       made = rw (starts, events_are, after_push (at_first (starts_of files)) (events kept calls) e) made;
       inside = rw adds (inside_push (length kept') calls x inside_still i);
@@ -98,7 +93,7 @@ module _ (kept more : List ℕ) (calls : List Call) (spans : List (ℕ × Span))
     pub names_are : kept_names kept' spans' ≡ kept_names kept spans ++ (disk, more) ∷ []
     names_are = rw adds (map_push (kept_name kept') spans (disk, span) ∙ ap (λ (ns : List (ℕ × List ℕ)). ns ++ kept_name kept' (disk, span) ∷ []) names_stay ∙ ap (λ (l : List ℕ). kept_names kept spans ++ (disk, l) ∷ []) (ap (λ (l : List ℕ). piece l span) keeps ∙ last_piece kept more span behind))
 
-    pub named_push : (files : List FileNow) (sent : List ℕ) → AreAsMade files sent (after (at_first (starts_of files)) (events kept calls)) → IsKept files sent kept' calls spans'
+    pub named_push : (files : List FileNow) (sent : List ℕ) → AreAsMade files sent (after (at_first (starts_of files)) (events kept calls)) → IsRecording files sent kept' calls spans'
     named_push files sent made = record {
       made = rw events_stay made;
       inside = inside_still;
@@ -157,25 +152,12 @@ module _ (files : List FileNow) (disk : ℕ) (f f' : FileNow) (files' : List Fil
         sent_is = h.sent_is;
       }
 
--- the bytes of a file
-pub bytes_at : (files : List FileNow) (sent : List ℕ) (s : Moment) (disk : ℕ) (f : FileNow) → AreAsMade files sent s → disk < length files → get_or files disk f ≡ f → f.bytes ≡ (s.disk disk).bytes
-bytes_at files sent s disk f h lt was = sym (get_or-map (λ (x : FileNow). x.bytes) files disk f [] lt ∙ ap (λ (x : FileNow). x.bytes) was) ∙ h.bytes_are disk lt
-
+-- a file among them
 pub start_at : (files : List FileNow) (disk : ℕ) (f : FileNow) → disk < length files → get_or files disk f ≡ f → get_or (starts_of files) disk [] ≡ f.start
 start_at files disk f lt was = get_or-map (λ (x : FileNow). x.start) files disk f [] lt ∙ ap (λ (x : FileNow). x.start) was
 
 pub end_at : (files : List FileNow) (disk : ℕ) (f : FileNow) → disk < length files → get_or files disk f ≡ f → get_or (ends_of files) disk 0 ≡ f.end
 end_at files disk f lt was = get_or-map (λ (x : FileNow). x.end) files disk f 0 lt ∙ ap (λ (x : FileNow). x.end) was
-
-pub same_made : (old new : List FileNow) (sent : List ℕ) (s : Moment) → SameFiles old new → AreAsMade old sent s → AreAsMade new sent s
-same_made old new sent s same h = record { bytes_are = λ i less. rw same.bytes (h.bytes_are i (omega (arith, less, same.count))); sent_is = h.sent_is }
-
--- after more capacity was reserved
-pub same_kept : (old new : List FileNow) (sent kept : List ℕ) (calls : List Call) (spans : List (ℕ × Span)) → SameFiles old new → IsKept old sent kept calls spans → IsKept new sent kept calls spans
-same_kept old new sent kept calls spans same h = record { made = rw same.starts (same_made old new sent (after (at_first (starts_of old)) (events kept calls)) same h.made); inside = h.inside; fit = h.fit }
-
-pub same_room : (upto : ℕ) (old new : List FileNow) → SameFiles old new → HaveRoom upto old → HaveRoom upto new
-same_room upto old new same h = λ i less. omega (arith, h i (omega (arith, less, same.count)), same.ends i)
 
 -- one file after another
 module _ (old files files' : List FileNow) (i : ℕ) (f f' : FileNow) (same : SameFiles old files) (is : files' ≡ set files i f') (was : get_or files i f ≡ f) (lt : i < length files) (start : f'.start ≡ f.start) (bytes : f'.bytes ≡ f.bytes) (grows : f.end ≤ f'.end) where
@@ -216,7 +198,7 @@ pointwise (x ∷ xs) (y ∷ ys) len h = rw (h 0 (omega arith), pointwise xs ys (
 
 -- one disk more, before the first call
 pub added : (files : List FileNow) (f : FileNow) (files' : List FileNow) (sent kept : List ℕ) (calls : List Call) (spans : List (ℕ × Span)) → files' ≡ files ++ f ∷ [] → events kept calls ≡ [] → f.bytes ≡ f.start
-    → IsKept files sent kept calls spans → IsKept files' sent kept calls spans
+    → IsRecording files sent kept calls spans → IsRecording files' sent kept calls spans
 added files f files' sent kept calls spans is none first k =
     let made : AreAsMade files sent (at_first (starts_of files)) = subst (λ (es : List Event). AreAsMade files sent (after (at_first (starts_of files)) es)) none k.made in
     let all : bytes_of files ≡ starts_of files =

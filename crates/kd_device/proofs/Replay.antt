@@ -4,13 +4,13 @@ use Rattle.std.specs.Prelude.{OnOk}
 use Rattle.std.proofs.lemmas.List.{drop-drop, take_more, map_push, take-map, length-take}
 use Rattle.kd_device.specs.declared.call.Call.{Call}
 use Rattle.kd_device.specs.Device.{Torn, written}
-use Rattle.kd_device.specs.History.{Event, Disk, Moment, Torns, Stands, AllDone, IsDone, AtRest, Since, step_on, step, after}
+use Rattle.kd_device.specs.History.{Event, Disk, Moment, Torns, StopLeaves, AllDone, IsDone, AtRest, Since, step_on, step, after}
 use Rattle.kd_device.specs.Recording.{Recording, event, events, IsInside, AllInside}
 use Rattle.kd_device.specs.HistoryLaws.{torns_push}
 use Rattle.kd_device.specs.TornLaws.{torn_over}
 use Rattle.kd_device.proofs.Grows.{after_push}
 
-pub torn_step : (d : Disk) (at upto first : ℕ) (bytes image image' : List ℕ) → bytes ≡ d.bytes → first ≡ min at (length bytes) → Stands d image → Torn first upto image image' → Torns (d.pending ++ (min at (length d.bytes), upto) ∷ []) d.base image'
+pub torn_step : (d : Disk) (at upto first : ℕ) (bytes image image' : List ℕ) → bytes ≡ d.bytes → first ≡ min at (length bytes) → StopLeaves d image → Torn first upto image image' → Torns (d.pending ++ (min at (length d.bytes), upto) ∷ []) d.base image'
 torn_step d at upto first bytes image image' same is torns torn =
     torns_push d.pending (min at (length d.bytes), upto) d.base image image' torns (subst (λ (n : ℕ). Torn n upto image image') (is ∙ ap (λ (l : List ℕ). min at (length l)) same) torn)
 

@@ -2,7 +2,7 @@
 use Rattle.std.proofs.Common.{◌≡◌, ◌⊎◌, ◌≤◌, ℕ, List, [], ◌∷◌, ◌++◌, Bool, true, false, Result, Ok, Err, refl, ap, sym, subst, ◌∙◌, arith, length}
 use Rattle.std.specs.Prelude.{is_ok, nat_eq, OnOk, IsTrue}
 use Rattle.kd_device.specs.Device.{Frame, Quiet, Writes, Emits, Only}
-use Rattle.kd_device.specs.History.{Event, Wrote, Synced, Emitted, Disk, Stands, is_on, put_by}
+use Rattle.kd_device.specs.History.{Event, Wrote, Synced, Emitted, Disk, StopLeaves, is_on, put_by}
 use Rattle.kd_device.specs.declared.half.Half.{Half}
 use Rattle.kd_device.specs.declared.half.Half.TheVariants.{First, Second}
 use Rattle.kd_device.specs.Twin.{disk_number, other, disk_of, half_state, slice}
@@ -26,10 +26,10 @@ Side First d c = OfBoth c d
 Side Second d c = OfBoth d c
 
 pub of_first : (d : List ℕ) → ImagesBy 0 (Side First d)
-of_first d = record { own = λ c ds h. h.0; other_image = λ c x ds es same h s. (s, subst (λ (y : Disk). Stands y d) (sym (same 1 (λ e. omega (arith, e)))) h.1) }
+of_first d = record { own = λ c ds h. h.0; other_image = λ c x ds es same h s. (s, subst (λ (y : Disk). StopLeaves y d) (sym (same 1 (λ e. omega (arith, e)))) h.1) }
 
 pub of_second : (d : List ℕ) → ImagesBy 1 (Side Second d)
-of_second d = record { own = λ c ds h. h.1; other_image = λ c x ds es same h s. (subst (λ (y : Disk). Stands y d) (sym (same 0 (λ e. omega (arith, e)))) h.0, s) }
+of_second d = record { own = λ c ds h. h.1; other_image = λ c x ds es same h s. (subst (λ (y : Disk). StopLeaves y d) (sym (same 0 (λ e. omega (arith, e)))) h.0, s) }
 
 -- the twin's leaves, with the tape alone
 abbrev pub left_both : Recording → ℕ → List ℕ → List ℕ → List ℕ → Type 0

@@ -3,6 +3,13 @@ use Rattle.std.specs.Prelude.{◌≡◌, ◌⊎◌, ◌≤◌, ℕ, List, IsTrue
 use Rattle.kd_device.specs.declared.half.Half.{Half}
 use Rattle.kd_device.specs.Twin.{Both, other, disk_of, slice, half_leaves}
 
+-- the laws of a twin at one moment
+abbrev pub SentAt : Both → (ℕ → List ℕ → List ℕ → List ℕ → Type 0) → Type 0
+SentAt b leaves = (c d out : List ℕ) → IsTrue b.told → leaves b.moment c d out → out ≡ b.sent
+
+abbrev pub EarlierAt : Both → (ℕ → List ℕ → List ℕ → List ℕ → Type 0) → Type 0
+EarlierAt b leaves = (t u : ℕ) (c d out : List ℕ) → IsTrue b.told → t ≤ u → leaves u c d out → leaves t c d out
+
 -- at a stop now just these bytes are sent
 abbrev pub SentNow : Half → Both → (ℕ → List ℕ → List ℕ → List ℕ → Type 0) → Type 0
 SentNow half b leaves = (d c out : List ℕ) → slice half d leaves b.moment c out → out ≡ b.sent
@@ -31,10 +38,3 @@ pub record IsSince (half : Half) (place0 place : ℕ) (b0 b : Both) (l0 l : ℕ 
   pub apart : Apart half b0 b l0 l
   pub sent_then : IsTrue b0.told → SentNow half b0 l0
   pub earlier_then : IsTrue b0.told → Earlier half l0
-
--- this twin is the origin
-pub record IsHere (place0 place : ℕ) (b0 b : Both) (l0 l : ℕ → List ℕ → List ℕ → List ℕ → Type 0) : Type 0 where
-  pub same_place : place ≡ place0
-  pub same_both : b ≡ b0
-  pub to : (t : ℕ) (c d out : List ℕ) → l t c d out → l0 t c d out
-  pub from : (t : ℕ) (c d out : List ℕ) → l0 t c d out → l t c d out

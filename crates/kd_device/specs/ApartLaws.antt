@@ -4,8 +4,8 @@ use Rattle.std.proofs.Common.{inl, inr, ⊎_elim, ◌∙◌, arith, sym, subst}
 use Rattle.kd_device.specs.Device.{Quiet, Writes, Emits}
 use Rattle.kd_device.specs.declared.half.Half.{Half}
 use Rattle.kd_device.specs.Twin.{Both, other, disk_of, half_state, slice, half_leaves}
-use Rattle.kd_device.specs.Apart.{SentNow, Earlier, Parted, Apart, IsSince, IsHere}
-use Rattle.kd_device.specs.HalfLaws.{slice_other, slice_back, slice_map, sent_half, earlier_half}
+use Rattle.kd_device.specs.Apart.{SentAt, EarlierAt, SentNow, Earlier, Parted, Apart, IsSince}
+use Rattle.kd_device.specs.HalfLaws.{slice_other, slice_back, sent_half, earlier_half}
 
 -- what may be left of a half now, beside the image of the other one
 other_now : (half : Half) (a : Both) (la : ℕ → List ℕ → List ℕ → List ℕ → Type 0) → SentNow half a la → (d c out : List ℕ) → slice half d la a.moment c out → half_leaves (other half) la a.moment d a.sent
@@ -69,27 +69,23 @@ module _ (half : Half) (a b : Both) (la lb : ℕ → List ℕ → List ℕ → L
       others = λ told d c out left. ⊎_elim (λ l. other_now half a la (sent_a told) d c out l) (λ sending. other_now half a la (sent_a told) d c a.sent sending.image) ((e told d).time.only a.moment c out (omega arith) left);
     }
 
--- the origin itself, by the laws of the twin
-pub since_here : (half : Half) (place0 place : ℕ) (b0 b : Both) (l0 l : ℕ → List ℕ → List ℕ → List ℕ → Type 0) → IsHere place0 place b0 b l0 l → ((c d out : List ℕ) → IsTrue b.told → l b.moment c d out → out ≡ b.sent)
-    → ((t u : ℕ) (c d out : List ℕ) → IsTrue b.told → t ≤ u → l u c d out → l t c d out) → IsSince half place0 place b0 b l0 l
-since_here half place0 place b0 b l0 l here sent earlier =
-    let to = slice_map half l l0 here.to in
-    let from = slice_map half l0 l here.from in
-    let sent_is : IsTrue b.told → SentNow half b l0 = λ told d c out left. sent_half half b l (λ c d out. sent c d out told) d c out (from d b.moment c out left) in
-    subst (λ (x : Both). IsSince half place0 place x b l0 l) here.same_both
-    (record {
-      same_place = here.same_place;
+-- a twin as it is now is an origin
+pub since_now : (b : Both) (l : ℕ → List ℕ → List ℕ → List ℕ → Type 0) → SentAt b l → EarlierAt b l → (half : Half) (place : ℕ) → IsSince half place place b b l l
+since_now b l sent earlier half place =
+    let sent_is : IsTrue b.told → SentNow half b l = λ told. sent_half half b l (λ c d out. sent c d out told) in
+    record {
+      same_place = refl;
       apart = record {
         told = refl;
         later = omega arith;
         disk = refl;
-        parted = λ told d t c out le left. inl (to d t c out left);
-        keeps = λ told d t c out le left. from d t c out left;
-        others = λ told d c out left. other_now half b l0 (sent_is told) d c out (to d b.moment c out left);
+        parted = λ told d t c out le left. inl left;
+        keeps = λ told d t c out le left. left;
+        others = λ told d c out left. other_now half b l (sent_is told) d c out left;
       };
       sent_then = sent_is;
-      earlier_then = λ told d t u c out le left. to d t c out (earlier_half half l (λ t u c d out. earlier t u c d out told) d t u c out le (from d u c out left));
-    })
+      earlier_then = λ told. earlier_half half l (λ t u c d out. earlier t u c d out told);
+    }
 
 -- a half in use since an origin, after one call more
 pub since_then : (half : Half) (place0 place place' : ℕ) (b0 b b' : Both) (l0 l l' : ℕ → List ℕ → List ℕ → List ℕ → Type 0) → (IsTrue b0.told → Earlier half l) → (IsTrue b0.told → Earlier half l')

@@ -16,10 +16,6 @@ pub slice_back : (half : Half) (leaves : ℕ → List ℕ → List ℕ → List 
 slice_back First leaves d t c out left = left
 slice_back Second leaves d t c out left = left
 
-pub slice_map : (half : Half) (l l' : ℕ → List ℕ → List ℕ → List ℕ → Type 0) → ((t : ℕ) (c d out : List ℕ) → l t c d out → l' t c d out) → (d : List ℕ) (t : ℕ) (c out : List ℕ) → slice half d l t c out → slice half d l' t c out
-slice_map First l l' h d t c out left = h t c d out left
-slice_map Second l l' h d t c out left = h t d c out left
-
 -- the laws of a twin, by halves
 pub holds_half : (half : Half) (b : Both) (leaves : ℕ → List ℕ → List ℕ → List ℕ → Type 0) → leaves b.moment b.first.holds b.second.holds b.sent → half_leaves half leaves b.moment (disk_of half b).holds b.sent
 holds_half First b leaves left = (b.second.holds, left)

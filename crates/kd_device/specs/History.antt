@@ -61,8 +61,8 @@ Torns [] old new = new ≡ old
 Torns (r ∷ rs) old new = (mid : List ℕ) × Torn r.0 r.1 old mid × Torns rs mid new
 
 -- a stop leaves this of a disk
-abbrev pub Stands : Disk → List ℕ → Type 0
-Stands d c = Torns d.pending d.base c
+abbrev pub StopLeaves : Disk → List ℕ → Type 0
+StopLeaves d c = Torns d.pending d.base c
 
 -- a stop between two calls leaves what has P of the disks
 abbrev pub AtRest : ((ℕ → Disk) → Type 0) → Moment → List ℕ → Type 0

@@ -3,7 +3,7 @@ use Rattle.std.specs.Prelude.{◌≡◌, ◌≤◌, ℕ, zero, suc, ◌+◌, min
 use native.Mathlib.Omega.{arith}
 use Rattle.std.proofs.Common.{inr}
 use Rattle.kd_device.specs.Device.{Torn}
-use Rattle.kd_device.specs.History.{Event, Wrote, Synced, Emitted, Disk, Moment, at_first, is_on, moved, step, after, Torns, Stands, AtRest, Left, Since}
+use Rattle.kd_device.specs.History.{Event, Wrote, Synced, Emitted, Disk, Moment, at_first, is_on, moved, step, after, Torns, StopLeaves, AtRest, Left, Since}
 use Rattle.kd_device.specs.TornLaws.{torn_done, torn_not}
 
 -- one range more
@@ -15,22 +15,22 @@ torns_push [] r old mid new same torn = (new, (let P : List ℕ → Type 0 = λ 
 torns_push (q ∷ rs) r old mid new torns torn = (torns.0, torns.1, torns_push rs r torns.0 mid new torns.2 torn)
 
 -- a stop may leave what reads give
-moved_has : (e : Event) (d : Disk) → Stands d d.bytes → Stands (moved e d) (moved e d).bytes
+moved_has : (e : Event) (d : Disk) → StopLeaves d d.bytes → StopLeaves (moved e d) (moved e d).bytes
 moved_has (Wrote disk at bytes true) d h = torns_push d.pending (min at (length d.bytes), at + length bytes) d.base d.bytes _ h (torn_done d.bytes at bytes)
 moved_has (Wrote disk at bytes false) d h = torns_push d.pending (min at (length d.bytes), at + length bytes) d.base d.bytes _ h (torn_not _ _ d.bytes)
 moved_has (Synced disk true) d h = refl
 moved_has (Synced disk false) d h = h
 moved_has (Emitted piece done) d h = h
 
-step_has : (on : Bool) (e : Event) (d : Disk) → Stands d d.bytes → Stands (if on then moved e d else d) (if on then moved e d else d).bytes
+step_has : (on : Bool) (e : Event) (d : Disk) → StopLeaves d d.bytes → StopLeaves (if on then moved e d else d) (if on then moved e d else d).bytes
 step_has true e d h = moved_has e d h
 step_has false e d h = h
 
-after_has : (i : ℕ) (s : Moment) (es : List Event) → Stands (s.disk i) (s.disk i).bytes → Stands ((after s es).disk i) ((after s es).disk i).bytes
+after_has : (i : ℕ) (s : Moment) (es : List Event) → StopLeaves (s.disk i) (s.disk i).bytes → StopLeaves ((after s es).disk i) ((after s es).disk i).bytes
 after_has i s [] h = h
 after_has i s (e ∷ es) h = after_has i (step s e) es (step_has (is_on i e) e (s.disk i) h)
 
-pub has_bytes : (i : ℕ) (starts : List (List ℕ)) (es : List Event) → Stands ((after (at_first starts) es).disk i) ((after (at_first starts) es).disk i).bytes
+pub has_bytes : (i : ℕ) (starts : List (List ℕ)) (es : List Event) → StopLeaves ((after (at_first starts) es).disk i) ((after (at_first starts) es).disk i).bytes
 has_bytes i starts es = after_has i (at_first starts) es refl
 
 module _ (P : (ℕ → Disk) → Type 0) where

@@ -8,16 +8,16 @@ use Rattle.kd_device.specs.declared.half.Half.TheVariants.{First}
 use Rattle.kd_device.specs.declared.tally.Tally.{Tally}
 use Rattle.kd_device.specs.Device.{State}
 use Rattle.kd_device.specs.Tally.{none, number_of, after_call, FailsNext, EmitFailsNext}
-use Rattle.kd_device.specs.History.{Disk, Stands}
+use Rattle.kd_device.specs.History.{Disk, StopLeaves}
 use Rattle.kd_device.specs.Recording.{Recording, blank, seen, left_by}
 
 -- the image of the one disk
 abbrev pub OfOne : List ℕ → (ℕ → Disk) → Type 0
-OfOne c disk = Stands (disk 0) c
+OfOne c disk = StopLeaves (disk 0) c
 
 -- the images of two disks
 abbrev pub OfBoth : List ℕ → List ℕ → (ℕ → Disk) → Type 0
-OfBoth c d disk = Stands (disk 0) c × Stands (disk 1) d
+OfBoth c d disk = StopLeaves (disk 0) c × StopLeaves (disk 1) d
 
 pub record Memory : Type 0 where
   pub recording : Recording

@@ -135,7 +135,7 @@ pub record AreAsMade (files : List FileNow) (sent : List ℕ) (s : Moment) : Typ
   pub bytes_are : (i : ℕ) → i < length files → get_or (bytes_of files) i [] ≡ (s.disk i).bytes
   pub sent_is : sent ≡ s.sent
 
-pub record IsKept (files : List FileNow) (sent kept : List ℕ) (calls : List Call) (spans : List (ℕ × Span)) : Type 0 where
+pub record IsRecording (files : List FileNow) (sent kept : List ℕ) (calls : List Call) (spans : List (ℕ × Span)) : Type 0 where
   pub made : AreAsMade files sent (after (at_first (starts_of files)) (events kept calls))
   pub inside : AllInside (length kept) calls
   pub fit : AllFit (length kept) spans

@@ -4,49 +4,21 @@ ghost use Rattle.kd_device.specs.{Twin.{half_state, half_leaves}, Apart.{IsSince
 
 use crate::device::{Device, Failed};
 use crate::half::Half;
+use crate::lent::HalfOrigin;
 use crate::twin::Twin;
 use kd_base::OutOfMemory;
-use std::marker::{Brand, Model, PhantomData};
-
-/// Where a half begins to be used. What makes a `HalfDevice` is generic in it; whoever calls that passes `Brand`, and its
-/// proof picks the twin as it is then.
-pub trait Origin {
-    ghost use Rattle.std.specs.Prelude.{ℕ, List};
-    ghost use Rattle.kd_device.specs.Twin.{Both};
-    ghost use Rattle.kd_device.specs.declared.half.Half.{Half};
-
-    ghost half: { Half };
-
-    ghost place: { ℕ };
-
-    ghost both: { Both };
-
-    ghost leaves: { ℕ → List ℕ → List ℕ → List ℕ → Type 0 };
-}
-
-impl Origin for Brand {
-    ghost use Rattle.kd_device.specs.Twin.{untold};
-    ghost use Rattle.kd_device.specs.declared.half.Half.TheVariants.{First};
-
-    ghost half = { First };
-
-    ghost place = { 0 };
-
-    ghost both = { untold };
-
-    ghost leaves = { λ t c d out. Unit {0} };
-}
+use std::marker::{Model, PhantomData};
 
 /// A half of a twin as a device: the disk of that half, and the line. Contracts see the twin. Whatever is done with it,
 /// the other half is as it was at the origin.
 #[derive(Drop)]
-pub struct HalfDevice<T: Twin, O: Origin> {
+pub struct HalfDevice<T: Twin, O: HalfOrigin> {
     twin: T,
     half: Half,
     origin: PhantomData<O>,
 }
 
-impl<T: Twin, O: Origin> Model for HalfDevice<T, O> {
+impl<T: Twin, O: HalfOrigin> Model for HalfDevice<T, O> {
     ghost use Rattle.std.specs.Prelude.{◌≡◌};
     ghost use Rattle.kd_device.specs.Apart.{IsSince};
 
@@ -57,7 +29,7 @@ impl<T: Twin, O: Origin> Model for HalfDevice<T, O> {
     ghost invariant = { λ h. (h.half ≡ O.half) × IsSince O.half O.place (T.place h.twin) O.both (T.both h.twin) O.leaves (T.leaves h.twin) };
 }
 
-impl<T: Twin, O: Origin> HalfDevice<T, O> {
+impl<T: Twin, O: HalfOrigin> HalfDevice<T, O> {
     /// This half. It takes no memory.
     pub fn new(twin: T, half: Half) -> HalfDevice<T, O>
         requires half { half ≡ O.half }
@@ -81,7 +53,7 @@ impl<T: Twin, O: Origin> HalfDevice<T, O> {
     }
 }
 
-impl<T: Twin, O: Origin> Device for HalfDevice<T, O> {
+impl<T: Twin, O: HalfOrigin> Device for HalfDevice<T, O> {
     ghost state = { λ h. half_state O.half (T.both h) };
 
     ghost leaves = { λ h. half_leaves O.half (T.leaves h) };

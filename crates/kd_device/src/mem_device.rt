@@ -1,7 +1,8 @@
 //! A device in memory, which fails the calls that it is told to fail, and can be stopped after each call.
 ghost use Rattle.std.specs.Prelude.{◌≡◌, ◌≤◌, ◌+◌, ◌-◌, ◌↔◌, [], ◌∷◌, ◌++◌, IsTrue, length, take, drop, min, IfOk, OnOk, OnErr, IsErr, refl};
 ghost use Rattle.kd_device.specs.{Device.{Rose, Frame, SameDiskFaults, SameLineFaults, SameNames, SameSpare, UsesSpare, HasSpare, Reserved, Quiet, Writes, Emits, Only}, History.{AllDone, at_first}};
-ghost use Rattle.kd_device.specs.{HistoryLaws.{now_to, has_bytes, sent_is, since_less}, Recording.{disk_of, disk_at, moment_of, moment_at}, Memory.{OfOne, unused, state_of, leaves_of, Fails, EmitFails, Counts, CountsEmit, SameCalls, counted, emit_counted}};
+ghost use Rattle.kd_device.specs.{HistoryLaws.{now_to, has_bytes, sent_is, since_less}, Recording.{disk_of, disk_at, moment_of, moment_at}};
+ghost use Rattle.kd_device.specs.Memory.{OfOne, unused, state_of, leaves_of, Fails, EmitFails, Counts, CountsEmit, SameCalls, counted, emit_counted};
 
 use crate::buffer::read_part;
 use crate::device::{Device, Failed, answer};

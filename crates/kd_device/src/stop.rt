@@ -1,6 +1,6 @@
 //! What a stop leaves of a disk in memory.
 ghost use Rattle.std.specs.Prelude.{◌≡◌, ◌≤◌, ◌+◌, ◌<◌, List, ℕ, length, IfOk, OnOk, if◌then◌else◌};
-ghost use Rattle.kd_device.specs.{Device.{written, Torn}, History.{Disk, Moment, Stands, IsDone, AllDone, is_on, moved, step_on, after, fresh}, Recording.{event, events, IsInside, AllInside}};
+ghost use Rattle.kd_device.specs.{Device.{written, Torn}, History.{Disk, Moment, StopLeaves, IsDone, AllDone, is_on, moved, step_on, after, fresh}, Recording.{event, events, IsInside, AllInside}};
 
 use crate::buffer::overwrite;
 use crate::call::Call;
@@ -14,12 +14,11 @@ enum Part {
     Half,
 }
 
+// A place past all that a vector can hold is want of memory.
 fn write_over(to: &mut Vec<u8>, at: usize, bytes: &[u8]) -> Result<(), AllocError>
     ensures { OnOk result (to.new.items ≡ written to.old.items at bytes.now) }
 {
-    let Some(end) = at.checked_add(bytes.len()) else {
-        return Err(AllocError);
-    };
+    let end = at.saturating_add(bytes.len());
     to.reserve(end.saturating_sub(to.len()))?;
     overwrite(to, at, bytes);
     Ok(())
@@ -79,7 +78,7 @@ fn advance(
     ensures bytes { OnOk result ((d : Disk) → bytes.old.items ≡ d.bytes → bytes.new.items ≡ (moved (event kept.now call.now) d).bytes) }
     ensures old { OnOk result ((d : Disk) → part ≡ Part.Nothing → bytes.old.items ≡ d.bytes → image.old.items ≡ d.base → image.new.items ≡ (moved (event kept.now call.now) d).base) }
     ensures new { OnOk result (part ≡ Part.All → IsDone (event kept.now call.now) → image.old.items ≡ bytes.old.items → image.new.items ≡ bytes.new.items) }
-    ensures image { OnOk result ((d : Disk) → bytes.old.items ≡ d.bytes → Stands d image.old.items → Stands (moved (event kept.now call.now) d) image.new.items) }
+    ensures image { OnOk result ((d : Disk) → bytes.old.items ≡ d.bytes → StopLeaves d image.old.items → StopLeaves (moved (event kept.now call.now) d) image.new.items) }
 {
     match call {
         Call::Write { at, span, done, .. } => {
@@ -123,7 +122,7 @@ fn advance_if(
     ensures bytes { OnOk result ((d : Disk) → bytes.old.items ≡ d.bytes → bytes.new.items ≡ (step_on disk (event kept.now call.now) d).bytes) }
     ensures old { OnOk result ((d : Disk) → part ≡ Part.Nothing → bytes.old.items ≡ d.bytes → image.old.items ≡ d.base → image.new.items ≡ (step_on disk (event kept.now call.now) d).base) }
     ensures new { OnOk result (part ≡ Part.All → IsDone (event kept.now call.now) → image.old.items ≡ bytes.old.items → image.new.items ≡ bytes.new.items) }
-    ensures image { OnOk result ((d : Disk) → bytes.old.items ≡ d.bytes → Stands d image.old.items → Stands (step_on disk (event kept.now call.now) d) image.new.items) }
+    ensures image { OnOk result ((d : Disk) → bytes.old.items ≡ d.bytes → StopLeaves d image.old.items → StopLeaves (step_on disk (event kept.now call.now) d) image.new.items) }
 {
     if is_call_on(disk, call) {
         advance(bytes, image, call, kept, part)
@@ -164,7 +163,7 @@ pub fn image_after(
     requires { AllInside (length kept.now) calls.now }
     ensures old { choice ≡ 0 → IfOk result (λ image. (s : Moment) → s.disk disk ≡ fresh start.now → image.items ≡ ((after s (events kept.now calls.now)).disk disk).base) }
     ensures new { choice ≡ 1 → AllDone (events kept.now calls.now) → IfOk result (λ image. (s : Moment) → s.disk disk ≡ fresh start.now → image.items ≡ ((after s (events kept.now calls.now)).disk disk).bytes) }
-    ensures image { IfOk result (λ image. (s : Moment) → s.disk disk ≡ fresh start.now → Stands ((after s (events kept.now calls.now)).disk disk) image.items) }
+    ensures image { IfOk result (λ image. (s : Moment) → s.disk disk ≡ fresh start.now → StopLeaves ((after s (events kept.now calls.now)).disk disk) image.items) }
 {
     let mut bytes = start.to_vec(alloc)?;
     let mut image = start.to_vec(alloc)?;

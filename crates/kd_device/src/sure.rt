@@ -1,6 +1,7 @@
 //! A device in memory of which no call fails.
 ghost use Rattle.std.specs.Prelude.{◌≡◌, [], ◌∷◌, IsTrue, length, IfOk, refl};
-ghost use Rattle.kd_device.specs.{Device.{Only}, History.{at_first}, Recording.{blank, disk_of, moment_of}, Memory.{OfOne}, Sure.{sure_state, sure_leaves}, HistoryLaws.{now_to, has_bytes, sent_is, since_less}};
+ghost use Rattle.kd_device.specs.{Device.{Only}, History.{at_first}, HistoryLaws.{now_to, has_bytes, sent_is, since_less}};
+ghost use Rattle.kd_device.specs.{Recording.{blank, disk_of, moment_of}, Memory.{OfOne}, Sure.{sure_state, sure_leaves}};
 
 use crate::buffer::read_part;
 use crate::device::{Device, Failed};

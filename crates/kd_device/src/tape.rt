@@ -1,6 +1,6 @@
 //! Disk files and an output line in memory, with the calls that were made.
 ghost use Rattle.std.specs.Prelude.{◌≡◌, ◌≤◌, ◌<◌, ◌+◌, [], length, take, IfOk, OnErr, OnOk};
-ghost use Rattle.kd_device.specs.{History.{Wrote, Synced, Emitted, Stands, AllDone}, Recording.{Recording, blank, moment_of, disk_of, disk_at, with_disk, with_event, with_name, reserved}};
+ghost use Rattle.kd_device.specs.{History.{Wrote, Synced, Emitted, StopLeaves, AllDone}, Recording.{Recording, blank, moment_of, disk_of, disk_at, with_disk, with_event, with_name, reserved}};
 
 use crate::buffer::{append_if, keep, put};
 use crate::call::{Call, Span};
@@ -48,13 +48,13 @@ impl Drop for Tape {
 
 impl Model for Tape {
     ghost use Rattle.std.specs.Vec.{vec_len, vec_capacity};
-    ghost use Rattle.kd_device.specs.Recording.{Recording, starts_of, events, kept_names, IsKept, HasCapacity};
+    ghost use Rattle.kd_device.specs.Recording.{Recording, starts_of, events, kept_names, IsRecording, HasCapacity};
 
     ghost Value = { Recording };
 
     ghost view = { λ m. record { starts = starts_of m.files.items; events = events m.kept.items m.made.items; names = kept_names m.kept.items m.names.items; spare_calls = m.spare_calls; spare_bytes = m.spare_bytes; spare_end = m.spare_end } };
 
-    ghost invariant = { λ m. IsKept m.files.items m.sent.items m.kept.items m.made.items m.names.items
+    ghost invariant = { λ m. IsRecording m.files.items m.sent.items m.kept.items m.made.items m.names.items
         × HasCapacity m.spare_calls m.spare_bytes m.spare_end m.files.items (vec_len m.made) (vec_capacity m.made) (vec_len m.kept) (vec_capacity m.kept) (vec_len m.sent) (vec_capacity m.sent) (vec_len m.names) (vec_capacity m.names) };
 }
 
@@ -190,7 +190,7 @@ impl Tape {
     ) -> Result<Bytes, OutOfMemory>
         requires disk { disk < length self.now.starts }
         requires call { call ≤ length self.now.events }
-        ensures image { IfOk result (λ file. Stands (disk_at disk call self.now) file) }
+        ensures image { IfOk result (λ file. StopLeaves (disk_at disk call self.now) file) }
         ensures old { choice ≡ 0 → IfOk result (λ file. file ≡ (disk_at disk call self.now).base) }
         ensures new { choice ≡ 1 → AllDone (take call self.now.events) → IfOk result (λ file. file ≡ (disk_at disk call self.now).bytes) }
     {

@@ -10,7 +10,7 @@ pub mod CommitLaws
 pub mod OpeningLaws
 pub mod MakingLaws
 pub mod ReopenLaws
-pub mod SingleLaws
+pub mod OneHalfLaws
 pub mod CommitTwoLaws
 pub mod OpenedLaws
 pub mod MendLaws

@@ -133,7 +133,7 @@ frame_then a b e h k = record {
 }
 
 pub none_rose_then : (a b e : Both) → NoneRose a b → NoneRose b e → NoneRose a e
-none_rose_then a b e h k = record { first_same = k.first_same ∙ h.first_same; second_same = k.second_same ∙ h.second_same }
+none_rose_then a b e h k = record { first_same = k.first_same ∙ h.first_same; second_same = k.second_same ∙ h.second_same; line_same = k.line_same ∙ h.line_same }
 
 -- a call on the first half, and then one on the second
 module _ (a b e : Both) (second_stands : SameDisk Second a b) (first_stands : SameDisk First b e) where
@@ -143,7 +143,8 @@ module _ (a b e : Both) (second_stands : SameDisk Second a b) (first_stands : Sa
 
   pub two_fine : SameFaults (half_state First a) (half_state First b) → SameFaults (half_state Second b) (half_state Second e) → NoneRose a e
   two_fine fine later_fine =
-      none_rose_then a b e (record { first_same = fine.disk; second_same = ap (λ (x : Disk). x.disk_faults) second_stands }) (record { first_same = ap (λ (x : Disk). x.disk_faults) first_stands; second_same = later_fine.disk })
+      none_rose_then a b e (record { first_same = fine.disk; second_same = ap (λ (x : Disk). x.disk_faults) second_stands; line_same = fine.line })
+      (record { first_same = ap (λ (x : Disk). x.disk_faults) first_stands; second_same = later_fine.disk; line_same = later_fine.line })
 
   module _ (lb le : ℕ → List ℕ → List ℕ → List ℕ → Type 0) (stays : OtherStays Second b e lb le) where
     pub two_rests : (la : ℕ → List ℕ → List ℕ → List ℕ → Type 0) → SentNowBoth a la → SentNowBoth b lb → Rests (half_state First a) (half_state First b) (half_leaves First la) (half_leaves First lb) → LeavesBeside First a b la lb NoMore → OtherStays First a b la lb

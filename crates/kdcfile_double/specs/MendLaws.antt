@@ -2,7 +2,7 @@
 use Rattle.std.specs.Prelude.{◌≡◌, ◌⊎◌, ◌≤◌, ℕ, List, Option, Some, None, Result, Ok, Err, OnOk, IsTrue, get_or}
 use Rattle.std.proofs.Common.{inl, inr, ⊎_elim, arith, refl, sym, ap, subst, ◌∙◌}
 use Rattle.kd_base.specs.ToolsLaws.{some_is}
-use Rattle.kd_device.specs.Device.{Frame, SameNames}
+use Rattle.kd_device.specs.Device.{Frame, Rose, SameNames}
 use Rattle.kd_device.specs.Rest.{Rests}
 use Rattle.kd_device.specs.declared.error.DeviceError.{DeviceError}
 use Rattle.kd_records.specs.Identity.{Identity}
@@ -21,11 +21,11 @@ use Rattle.kdcfile_copies.specs.Beside.{IsBeside, LeavesBeside, NoMore, OtherSta
 use Rattle.kdcfile_copies.specs.BesideLaws.{beside_pairs, pairs_then, pairs_weaker}
 use Rattle.kdcfile_copies.specs.Mending.{BeginsWith, HalfRests, IsMending, LeavesHalf, BothRest as EachRests}
 use Rattle.kdcfile_copies.specs.MendingLaws.{copy_stands_for, gate_open, shut_means_nothing}
-use Rattle.kdcfile_double.specs.Twice.{Twice, AreAlike, AreSame, FrameBoth, IsInUse, IsKeptTwice, KeepsIf, LeavesBoth, SideRests, StaysBehind, copy_at, identity_of, sequence_of, content_of}
+use Rattle.kdcfile_double.specs.Twice.{Twice, AreAlike, AreSame, FrameBoth, IsInUse, IsKeptTwice, KeepsIf, LeavesBoth, RoseAt, SameFaultsAt, SideRests, StaysBehind, copy_at, identity_of, sequence_of, content_of}
 use Rattle.kdcfile_double.specs.ChosenLaws.{IsSomeOf, below_at_most, copy_at_most, kept_copy, none_is_below, second_chosen}
 use Rattle.kdcfile_double.specs.CommitLaws.{content_kept, identity_kept, sequence_kept}
 use Rattle.kdcfile_double.specs.Choice.{copy_in}
-use Rattle.kdcfile_double.specs.Mended.{BothRest, IsBehind, IsMendingOne, IsSameCopy, IsTaken, TakesAfter, lost_at}
+use Rattle.kdcfile_double.specs.Mended.{BothRest, FineMending, IsBehind, IsMendingOne, IsSameCopy, IsTaken, TakesAfter, lost_at}
 use Rattle.kdcfile_double.specs.ReopenLaws.{same_keeps_if}
 
 -- ---- both halves at rest, as a record and by halves
@@ -334,6 +334,25 @@ module _ (source : Half) (s : Twice) (used : IsInUse source s) (behind : IsBehin
       by First own Second none = refl
       by Second own First none = refl
       by Second own Second none = absurd (some_none (sym own.1 ∙ none.0))
+
+  -- no call failed on the half in use
+  source_fine : (a b : Both) → SameFaultsAt source a b → (half : Half) → IsInUse half s → SameFaultsAt half a b
+  source_fine a b fine = by source behind.0 fine
+    where
+      by : (h : Half) → copy_at (other h) s ≡ None → SameFaultsAt h a b → (half : Half) → IsInUse half s → SameFaultsAt half a b
+      by First none fine First own = fine
+      by First none fine Second own = absurd (some_none (sym own.1 ∙ none))
+      by Second none fine First own = absurd (some_none (sym own.1 ∙ none))
+      by Second none fine Second own = fine
+
+  pub copying_fine : (a b : Both) → SameFaultsAt source a b → b.line_faults ≡ a.line_faults → FineMending s a b
+  copying_fine a b fine line = record { spared = source_fine a b fine; line = inl line }
+
+  pub mending_fine : (a b e : Both) → SameFaultsAt source a b → SameFaultsAt (other source) a b → b.line_faults ≡ a.line_faults → SameDisk source b e → (e.line_faults ≡ b.line_faults) ⊎ RoseAt (other source) b e → FineMending s a e
+  mending_fine a b e fine also line same later = record {
+    spared = source_fine a e (ap (λ (d : Disk). d.disk_faults) same ∙ fine);
+    line = ⊎_elim (λ l. inl (l ∙ line)) (λ rose. inr (other source, behind, subst (λ (n : ℕ). Rose n (disk_of (other source) e).disk_faults) also rose)) later;
+  }
 
   module _ (s' : Twice) (a b e : Both) (result : Result Unit DeviceError) (takes : TakesAfter (other source) s s' b e result) where
     pub source_stays : copy_at source s' ≡ copy_at source s

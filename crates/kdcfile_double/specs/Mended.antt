@@ -24,6 +24,11 @@ pub record BothRest (b : Both) (leaves : ℕ → List ℕ → List ℕ → List 
 abbrev pub IsBehind : Half → Twice → Type 0
 IsBehind half s = (copy_at half s ≡ None) × (s.lost ≡ None)
 
+-- what is known of a mending that did not fail as a whole: no call failed on a half in use, and none of the line, unless one on the half that was behind did
+pub record FineMending (s : Twice) (old new : Both) : Type 0 where
+  pub spared : (half : Half) → IsInUse half s → SameFaultsAt half old new
+  pub line : (new.line_faults ≡ old.line_faults) ⊎ ((half : Half) × IsBehind half s × RoseAt half old new)
+
 -- that half is lost
 abbrev pub lost_at : Half → Twice → Twice
 lost_at half s = record { first = s.first; second = s.second; mended = s.mended; lost = Some half }

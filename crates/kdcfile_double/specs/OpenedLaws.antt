@@ -15,7 +15,11 @@ use Rattle.kdcfile_copies.specs.Copies.{IsCopyOf, bare}
 use Rattle.kdcfile_copies.specs.CopiesLaws.{store_is_copy}
 use Rattle.kdcfile_copies.specs.Finding.{IsAnswer, IsFound}
 use Rattle.device_acts.specs.Stands.{AreTables}
+use Rattle.device_acts.specs.declared.warm_start.error.OpenError.{OpenError}
+use Rattle.device_acts.specs.declared.warm_start.error.OpenError.TheVariants as opening
 use Rattle.kdcfile_double.specs.declared.error.TwinOpenError.{TwinOpenError}
+use Rattle.kdcfile_double.specs.declared.error.TwinOpenError.TheVariants as to
+use Rattle.kdcfile_double.specs.Causes.{of_open}
 use Rattle.kdcfile_double.specs.Twice.{Twice, IsInUse, IsKeptTwice, IsOpen, content_of, identity_of, sequence_of}
 use Rattle.kdcfile_double.specs.Opening.{AreEmpty, AreInUseSo, HasNoTablesInTwo, KeepsTablesTwice, SameFiles, StartsFromTwo, identity_twice}
 use Rattle.kdcfile_double.specs.Mended.{BothRest}
@@ -125,7 +129,29 @@ opened_kept f h old new leaves told first second same rest (Ok o) fits = λ open
     (fits new.first.holds new.second.holds (subst (λ (l : List ℕ). IsAnswer f l) (sym (same now).first_holds) (first now)) (subst (λ (l : List ℕ). IsAnswer h l) (sym (same now).second_holds) (second now))) (rest now)
 opened_kept f h old new leaves told first second same rest (Err x) fits = tt
 
--- an error that is handed on
-pub handed_on : (T U : Type 0) (r : Result T TwinOpenError) (e f : TwinOpenError) → IsErrAnd r (λ x. x ≡ e) → IsErrOf r f → IsErrOf {T = U} (Err e) f
-handed_on T U (Ok x) e f gives is = absurd gives
-handed_on T U (Err x) e f gives is = let h : x ≡ f = cc in ap (λ (y : TwinOpenError). Err y) (sym gives ∙ h)
+-- ---- an error that is handed on
+
+-- which error it was
+abbrev was : TwinOpenError → OpenError
+was to.NotKdcfile = opening.NotKdcfile
+was (to.OtherGeneration stored) = opening.OtherGeneration stored
+was (to.Spent n) = opening.Memory
+was to.Failed = opening.Failed
+was to.Memory = opening.Memory
+
+was_of : (e : OpenError) → was (of_open e) ≡ e
+was_of opening.NotKdcfile = refl
+was_of (opening.OtherGeneration stored) = refl
+was_of opening.Failed = refl
+was_of opening.Memory = refl
+
+pub handed_open : (T U : Type 0) (r : Result T TwinOpenError) (e f : OpenError) → IsErrAnd r (λ x. x ≡ of_open e) → IsErrOf r (of_open f) → IsErrOf {T = U} (Err e) f
+handed_open T U (Ok x) e f gives is = absurd gives
+handed_open T U (Err x) e f gives is = let h : x ≡ of_open f = cc in ap (λ (y : OpenError). Err y) (sym (was_of e) ∙ ap was (sym gives ∙ h) ∙ was_of f)
+
+pub never_spent : (T : Type 0) (r : Result T TwinOpenError) (e : OpenError) (n : ℕ) → IsErrAnd r (λ x. x ≡ of_open e) → IsErrOf r (to.Spent n) → ⊥
+never_spent T (Ok x) e n gives is = absurd gives
+never_spent T (Err x) opening.NotKdcfile n gives is = absurd cc
+never_spent T (Err x) (opening.OtherGeneration stored) n gives is = absurd cc
+never_spent T (Err x) opening.Failed n gives is = absurd cc
+never_spent T (Err x) opening.Memory n gives is = absurd cc

@@ -11,8 +11,8 @@ use Rattle.kd_device.specs.declared.half.Half.TheVariants.{First, Second}
 use Rattle.kdcfile_store.specs.Paged.{HasFile}
 use Rattle.kdcfile_copies.specs.declared.answer.LoadedCopy.{LoadedCopy}
 use Rattle.kdcfile_copies.specs.Beside.{SameDisk}
-use Rattle.kdcfile_double.specs.declared.error.TwinOpenError.{TwinOpenError}
-use Rattle.kdcfile_double.specs.declared.error.TwinOpenError.TheVariants as to
+use Rattle.device_acts.specs.declared.warm_start.error.OpenError.{OpenError}
+use Rattle.device_acts.specs.declared.warm_start.error.OpenError.TheVariants as opening
 use Rattle.kdcfile_double.specs.Twice.{Twice, IsInUse, IsKeptTwice, IsOpen, IsTwice, KeepsIf, LosesBy, RoseAt, SameFaultsAt, SideRests, StaysBehind, copy_at, identity_by, sequence_by}
 use Rattle.kdcfile_double.specs.Twice.{content_by, identity_of, sequence_of, content_of}
 use Rattle.kdcfile_double.specs.Committing.{IsKeptAt, IsLostSo, IsSameIf, lost_with}
@@ -252,9 +252,9 @@ module _ (s : Twice) (is : IsTwice s) (p q : Option LoadedCopy) (lost : Option H
     }
 
 -- no other error is handed on
-pub err_failed : (U : Type 0) (e : TwinOpenError) → IsErrOf {T = U} (Err e) to.Failed → e ≡ to.Failed
+pub err_failed : (U : Type 0) (e : OpenError) → IsErrOf {T = U} (Err e) opening.Failed → e ≡ opening.Failed
 err_failed U e h = cc
 
-pub failed_only : (T : Type 0) (r : Result T TwinOpenError) (e f : TwinOpenError) → IsErrAnd r (λ x. x ≡ e) → IsErrOf r f → e ≡ to.Failed → f ≡ to.Failed
+pub failed_only : (T : Type 0) (r : Result T OpenError) (e f : OpenError) → IsErrAnd r (λ x. x ≡ e) → IsErrOf r f → e ≡ opening.Failed → f ≡ opening.Failed
 failed_only T (Ok x) e f gives is failed = absurd gives
 failed_only T (Err x) e f gives is failed = let h : x ≡ f = cc in sym h ∙ gives ∙ failed

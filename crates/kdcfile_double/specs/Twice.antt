@@ -86,6 +86,10 @@ pub record AreSame (a b : LoadedCopy) : Type 0 where
 abbrev pub with_copies : Option LoadedCopy → Option LoadedCopy → Twice
 with_copies p q = record { first = p; second = q; mended = None; lost = None }
 
+-- no copy is in use
+abbrev pub given_up : Twice → Twice
+given_up s = record { first = None; second = None; mended = s.mended; lost = s.lost }
+
 abbrev pub IsInUse : Half → Twice → Type 0
 IsInUse half s = (p : LoadedCopy) × (copy_at half s ≡ Some p)
 
@@ -128,10 +132,11 @@ pub record FrameBoth (old new : Both) : Type 0 where
 abbrev pub RoseAt : Half → Both → Both → Type 0
 RoseAt half old new = Rose (disk_of half old).disk_faults (disk_of half new).disk_faults
 
--- no further call of a disk failed
+-- no further call failed
 pub record NoneRose (old new : Both) : Type 0 where
   pub first_same : new.first.disk_faults ≡ old.first.disk_faults
   pub second_same : new.second.disk_faults ≡ old.second.disk_faults
+  pub line_same : new.line_faults ≡ old.line_faults
 
 -- which half is lost is kept; another one is lost where a call on it failed
 pub record LosesBy (s s' : Twice) (old new : Both) : Type 0 where

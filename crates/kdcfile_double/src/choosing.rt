@@ -1,15 +1,14 @@
 //! Which of two copies counts, and which tables it keeps.
-ghost use Rattle.std.specs.Prelude.{◌≡◌, ◌↔◌, ℕ, List, IsTrue, IfOk, IfSome, IfNone, IsErrOf, None};
+ghost use Rattle.std.specs.Prelude.{◌≡◌, ◌↔◌, ℕ, List, IsTrue, IfOk, IfSome, IsErrOf, None};
 ghost use Rattle.kd_records.specs.Identity.{Identity};
 ghost use Rattle.laws_of_states.specs.Suits.{Suits};
-ghost use Rattle.kdcfile_double.specs.{Twice.{AreSame, IsTwice, IsOpen, with_copies, identity_of}, Opening.{KeepsTablesTwice, identity_twice}};
+ghost use Rattle.kdcfile_double.specs.{Twice.{IsTwice, IsOpen, with_copies, sequence_of}, Opening.{KeepsTablesTwice, identity_twice}};
 ghost use Rattle.kdcfile_double.specs.Choice.{IsChoice, IsCounted, IsLoadedIf, IsOfTwo, SuitsTwice, KeepsNoneTwice, KeepsOthersTwice, copy_in};
 
 use crate::alike::are_alike;
-use crate::error::TwinOpenError;
 use crate::store::TwinStore;
-use application_check::kdcdef_check::Generation;
-use device_acts::warm_start::limits_of;
+use application_types::generation::Generation;
+use device_acts::warm_start::{OpenError, limits_of};
 use kdcfile_copies::{Found, LoadedCopy, bare_content};
 use kdcfile_store::StoreLimits;
 use kdcs_types::Tables;
@@ -85,14 +84,25 @@ fn suits_twice(generation: &Generation, tables: &Tables, limits: StoreLimits) ->
 
 impl TwinStore {
     /// The copy that counts.
-    pub(crate) fn counted(&self) -> Option<&LoadedCopy>
-        ensures some { IfSome result (λ p. IsCounted p.now self.now) }
-        ensures none { result ≡ None → IsOpen self.now → ⊥ }
+    fn counted(&self) -> &LoadedCopy
+        requires { IsOpen self.now }
+        ensures { IsCounted result.now self.now }
     {
         match &self.first {
-            Some(copy) => Some(copy),
-            None => self.second.as_ref(),
+            Some(copy) => copy,
+            None => match &self.second {
+                Some(copy) => copy,
+                None => unreachable!(),
+            },
         }
+    }
+
+    /// The sequence of the last commit.
+    pub(crate) fn sequence(&self) -> u64
+        requires { IsOpen self.now }
+        ensures { result ≡ sequence_of self.now }
+    {
+        self.counted().sequence
     }
 
     /// The tables that are kept, where they are of the texts with this fingerprint and suit the generation.
@@ -101,28 +111,25 @@ impl TwinStore {
         alloc: Global,
         generation: &Generation,
         fingerprint: &[u8; 32],
-    ) -> Result<Tables, TwinOpenError>
+    ) -> Result<Tables, OpenError>
         requires { IsOpen self.now }
         ensures tables { IfOk result (λ t. KeepsTablesTwice (identity_twice generation.now fingerprint.now) self.now t) }
         ensures suits { IfOk result (λ t. Suits generation.now t) }
-        ensures refused { IsErrOf result TwinOpenError.NotKdcfile → KeepsNoneTwice generation.now fingerprint.now self.now }
-        ensures other { (stored : List ℕ) → IsErrOf result (TwinOpenError.OtherGeneration stored) → KeepsOthersTwice stored fingerprint.now self.now }
-        ensures failed { IsErrOf result TwinOpenError.Failed → ⊥ }
-        ensures spent { (n : ℕ) → IsErrOf result (TwinOpenError.Spent n) → ⊥ }
+        ensures refused { IsErrOf result OpenError.NotKdcfile → KeepsNoneTwice generation.now fingerprint.now self.now }
+        ensures other { (stored : List ℕ) → IsErrOf result (OpenError.OtherGeneration stored) → KeepsOthersTwice stored fingerprint.now self.now }
+        ensures failed { IsErrOf result OpenError.Failed → ⊥ }
     {
-        let Some(copy) = self.counted() else {
-            return Err(TwinOpenError::NotKdcfile);
-        };
+        let copy = self.counted();
         let content = bare_content(alloc, &copy.store)?;
         let Some(tables) = tables_of(alloc, &content)? else {
-            return Err(TwinOpenError::NotKdcfile);
+            return Err(OpenError::NotKdcfile);
         };
         let stored = *copy.store.fingerprint();
         if stored != *fingerprint {
-            return Err(TwinOpenError::OtherGeneration(stored));
+            return Err(OpenError::OtherGeneration(stored));
         }
         if !suits_twice(generation, &tables, copy.store.limits()) {
-            return Err(TwinOpenError::NotKdcfile);
+            return Err(OpenError::NotKdcfile);
         }
         Ok(tables)
     }

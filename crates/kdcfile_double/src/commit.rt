@@ -1,5 +1,5 @@
 //! A commit, on the first half and then on the second.
-ghost use Rattle.std.specs.Prelude.{◌≡◌, ◌⊎◌, ◌≤◌, ◌<◌, ◌+◌, ◌^◌, IsTrue, IfOk, IfSome, OnOk, OnErr, IsErrOf, Some, None};
+ghost use Rattle.std.specs.Prelude.{◌≡◌, ◌⊎◌, ◌≤◌, ◌<◌, ◌+◌, ◌^◌, IsTrue, IfOk, OnOk, OnErr, IsErrOf, Some, None};
 ghost use Rattle.kd_records.specs.{Contents.{IsPatch, patched}, Charge.{total_charge}};
 ghost use Rattle.kd_device.specs.{declared.half.Half.{Half as Side}, declared.half.Half.TheVariants.{First, Second}};
 ghost use Rattle.kdcfile_copies.specs.Copies.{HasNoSequence, next_patch};
@@ -7,7 +7,7 @@ ghost use Rattle.kdcfile_double.specs.Twice.{AreAlike, IsOpen, IsInUse, IsKeptTw
 ghost use Rattle.kdcfile_double.specs.Twice.{FineTwice, SparesLine, SparesOne, sequence_of, with_copies};
 ghost use Rattle.kdcfile_double.specs.Committing.{AreLostSo, AreWithin, CanTakeIf, IsKeptAt, IsNextIf, IsWithin};
 
-use crate::single::commit_one;
+use crate::one_half::commit_one;
 use crate::store::TwinStore;
 use kd_base::OutOfMemory;
 use kd_device::{DeviceError, Half, Twin};
@@ -51,23 +51,15 @@ fn commit_two<T: Twin>(
 }
 
 impl TwinStore {
-    // The sequence of the next commit, where there is one.
-    fn next_sequence(&self) -> Option<u64>
-        ensures { IfSome result (λ n. IsOpen self.now → n ≡ sequence_of self.now + 1) }
-    {
-        match self.counted() {
-            Some(copy) => copy.sequence.checked_add(1),
-            None => None,
-        }
-    }
-
     // The patch of the next commit.
     fn next_of(&self, alloc: Global, patch: &Patch) -> Result<Patch, OutOfMemory>
+        requires is_open { IsOpen self.now }
         requires patch { IsPatch patch.now }
-        ensures is_next { IfOk result (λ r. IsOpen self.now → r ≡ next_patch (sequence_of self.now + 1) patch.now) }
-        ensures small { IfOk result (λ r. IsOpen self.now → sequence_of self.now + 1 < 2 ^ 64) }
+        ensures is_next { IfOk result (λ r. r ≡ next_patch (sequence_of self.now + 1) patch.now) }
+        ensures small { IfOk result (λ r. sequence_of self.now + 1 < 2 ^ 64) }
     {
-        let Some(sequence) = self.next_sequence() else {
+        // Files are opened at 10^18 at most, but whoever keeps a store counts no commits.
+        let Some(sequence) = self.sequence().checked_add(1) else {
             return Err(OutOfMemory);
         };
         sequenced(alloc, patch, sequence)
@@ -75,7 +67,8 @@ impl TwinStore {
 
     /// Makes these changes on the first half and then on the second, each whole or not at all, with a sequence that is
     /// one more. A half on which a call fails is lost. Memory may run out before any write, and between the halves; after
-    /// an error no half is in use. At the end of its type a sequence cannot rise: that is answered as want of memory.
+    /// an error the store is to be given up. At the end of its type a sequence cannot rise: that is answered as want of
+    /// memory.
     pub fn commit<T: Twin>(
         &mut self,
         alloc: Global,

@@ -1,9 +1,8 @@
 //! Why two copies were not opened.
 ghost use Rattle.std.specs.Prelude.{◌≡◌};
-ghost use Rattle.kdcfile_double.specs.declared.error.TwinOpenError.TheVariants as errors;
-ghost use Rattle.kdcfile_double.specs.Causes.{of_device};
+ghost use Rattle.kdcfile_double.specs.Causes.{of_device, of_open};
 
-use kd_base::OutOfMemory;
+use device_acts::warm_start::OpenError;
 use kd_device::DeviceError;
 use thiserror::Error;
 
@@ -27,14 +26,6 @@ pub enum TwinOpenError {
     Memory,
 }
 
-impl From<OutOfMemory> for TwinOpenError {
-    ghost from_gives = { λ _ e. e ≡ errors.Memory };
-
-    fn from(_: OutOfMemory) -> Self {
-        TwinOpenError::Memory
-    }
-}
-
 impl From<DeviceError> for TwinOpenError {
     ghost from_gives = { λ e r. r ≡ of_device e };
 
@@ -42,6 +33,19 @@ impl From<DeviceError> for TwinOpenError {
         match e {
             DeviceError::Failed => TwinOpenError::Failed,
             DeviceError::Memory => TwinOpenError::Memory,
+        }
+    }
+}
+
+impl From<OpenError> for TwinOpenError {
+    ghost from_gives = { λ e r. r ≡ of_open e };
+
+    fn from(e: OpenError) -> Self {
+        match e {
+            OpenError::NotKdcfile => TwinOpenError::NotKdcfile,
+            OpenError::OtherGeneration(stored) => TwinOpenError::OtherGeneration(stored),
+            OpenError::Failed => TwinOpenError::Failed,
+            OpenError::Memory => TwinOpenError::Memory,
         }
     }
 }

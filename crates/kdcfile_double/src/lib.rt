@@ -4,7 +4,8 @@
 //! kdcfile_mending writes one half anew from the other one; and for the tables on device_acts, with its warm_start,
 //! record_codec and table_fit. To the call above, its contract says which copy counts and why two files are refused,
 //! that at every stop the copy that counts has the content with the patch or without it, as has each half on which no
-//! call failed, and that a half is lost only where a call on it failed.
+//! call failed, that a half is lost only where a call on it failed, and that wherever it is not answered that calls failed,
+//! none did on some half.
 #![tactic(auto)]
 
 mod alike;
@@ -12,8 +13,8 @@ mod choosing;
 mod commit;
 mod error;
 mod mend;
+mod one_half;
 mod opening;
-mod single;
 mod store;
 
 pub use error::TwinOpenError;

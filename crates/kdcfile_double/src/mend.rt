@@ -4,7 +4,7 @@ ghost use Rattle.kd_device.specs.{Twin.{disk_of, other}, declared.half.Half.{Hal
 ghost use Rattle.kdcfile_store.specs.Paged.{HasFile};
 ghost use Rattle.kdcfile_copies.specs.{Copies.{IsCopyOf}, Finding.{IsLoaded}};
 ghost use Rattle.kdcfile_double.specs.Twice.{IsOpen, IsInUse, IsKeptTwice, FrameBoth, RoseAt, SameFaultsAt, LosesBy, LeavesBoth, copy_at, content_of, identity_of, sequence_of};
-ghost use Rattle.kdcfile_double.specs.Mended.{BothRest, IsBehind, IsMendingOne, IsTaken, TakesAfter, lost_at};
+ghost use Rattle.kdcfile_double.specs.Mended.{BothRest, FineMending, IsBehind, IsMendingOne, IsTaken, TakesAfter, lost_at};
 
 use crate::alike::are_alike;
 use crate::choosing::copy_in;
@@ -102,6 +102,7 @@ impl TwinStore {
         ensures any_moment { IsTrue (T.both twin.old).told → LeavesBoth (T.both twin.old) (T.both twin.new) (T.leaves twin.old) (T.leaves twin.new) (λ c d out. (out ≡ (T.both twin.old).sent) × (c ≡ (T.both twin.old).first.holds) × (d ≡ (T.both twin.old).second.holds)) }
         ensures other_half { disk_of (other half) (T.both twin.new) ≡ disk_of (other half) (T.both twin.old) }
         ensures failed { IsErrOf result DeviceError.Failed → ⊥ }
+        ensures line { ((T.both twin.new).line_faults ≡ (T.both twin.old).line_faults) ⊎ RoseAt half (T.both twin.old) (T.both twin.new) }
         ensures frame { FrameBoth (T.both twin.old) (T.both twin.new) }
     {
         match load_half(alloc, twin, half) {
@@ -140,9 +141,10 @@ impl TwinStore {
         // A stop at any moment of the call leaves the same copy as the one that counts.
         ensures any_moment { IsTrue (T.both twin.old).told → LeavesBoth (T.both twin.old) (T.both twin.new) (T.leaves twin.old) (T.leaves twin.new) (IsMendingOne self.old (T.both twin.old).sent) }
 
-        // It fails only where a call on the half in use failed.
+        // It fails just where a call on the half in use failed.
         ensures failed { IsErrOf result DeviceError.Failed → (half : Side) → IsInUse half self.old → RoseAt half (T.both twin.old) (T.both twin.new) }
         ensures fine { OnOk result ((half : Side) → IsInUse half self.new → SameFaultsAt half (T.both twin.old) (T.both twin.new)) }
+        ensures went { (IsErrOf result DeviceError.Failed → ⊥) → FineMending self.old (T.both twin.old) (T.both twin.new) }
         ensures frame { FrameBoth (T.both twin.old) (T.both twin.new) }
     {
         self.copies_are_alike();

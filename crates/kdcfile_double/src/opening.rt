@@ -10,13 +10,14 @@ ghost use Rattle.device_acts.specs.Stands.{AreTables};
 ghost use Rattle.kdcfile_double.specs.Twice.{IsOpen, IsInUse, IsKeptTwice, IsTwice, FrameBoth, RoseAt, NoneRose, SameFaultsAt, LosesBy, LeavesBoth, content_of, identity_of, sequence_of};
 ghost use Rattle.kdcfile_double.specs.Opening.{AreEmpty, AreInUseSo, HasNoTablesInTwo, IsMakingTwo, IsRefusedTwo, IsSpent, IsTwoOfOtherTexts, KeepsTablesTwice, SameFiles, StartsFromTwo, Unchanged};
 ghost use Rattle.kdcfile_double.specs.{Opening.{identity_twice}, Twice.{FineTwice, SparesLine, SparesOne, with_copies}};
-ghost use Rattle.kdcfile_double.specs.{Choice.{AreOfFiles}, Mended.{BothRest}, MakingLaws.{RestsBoth}, Committing.{IsKeptAt}, SingleLaws.{KeepsSome}, ReopenLaws.{AreAgain}};
+ghost use Rattle.kdcfile_double.specs.{Choice.{AreOfFiles}, Mended.{BothRest}, MakingLaws.{RestsBoth}, Committing.{IsKeptAt}, OneHalfLaws.{KeepsSome}, ReopenLaws.{AreAgain}};
 
 use crate::choosing::{chosen, copy_in, in_use};
 use crate::error::TwinOpenError;
-use crate::single::reload;
+use crate::one_half::reload;
 use crate::store::TwinStore;
-use application_check::kdcdef_check::Generation;
+use application_types::generation::Generation;
+use device_acts::warm_start::OpenError;
 use kd_device::{Half, Twin};
 use kdcfile_copies::kdcfile_halves::{load_half, make_half};
 use kdcfile_copies::{Found, LoadedCopy};
@@ -148,7 +149,7 @@ fn reload_both<T: Twin>(
     first: Option<LoadedCopy>,
     second: Option<LoadedCopy>,
     lost: &mut Option<Half>,
-) -> Result<(Option<LoadedCopy>, Option<LoadedCopy>), TwinOpenError>
+) -> Result<(Option<LoadedCopy>, Option<LoadedCopy>), OpenError>
     requires first_keeps { KeepsSome first }
     requires second_keeps { KeepsSome second }
     requires first_kept { IsTrue (T.both twin.old).told → IsKeptAt First first (T.both twin.old) (T.leaves twin.old) }
@@ -157,9 +158,9 @@ fn reload_both<T: Twin>(
     ensures first_kept { IfOk result (λ o. IsTrue (T.both twin.old).told → IsKeptAt First o.0 (T.both twin.new) (T.leaves twin.new)) }
     ensures second_kept { IfOk result (λ o. IsTrue (T.both twin.old).told → IsKeptAt Second o.1 (T.both twin.new) (T.leaves twin.new)) }
     ensures rests { IsTrue (T.both twin.old).told → RestsBoth (T.both twin.old) (T.both twin.new) (T.leaves twin.old) (T.leaves twin.new) }
-    ensures refused { IsErrOf result TwinOpenError.NotKdcfile → IsTrue (T.both twin.old).told → ⊥ }
-    ensures told { ((stored : List ℕ) → IsErrOf result (TwinOpenError.OtherGeneration stored) → ⊥) × ((n : ℕ) → IsErrOf result (TwinOpenError.Spent n) → ⊥) }
-    ensures failed { IsErrOf result TwinOpenError.Failed → ⊥ }
+    ensures refused { IsErrOf result OpenError.NotKdcfile → IsTrue (T.both twin.old).told → ⊥ }
+    ensures other { (stored : List ℕ) → IsErrOf result (OpenError.OtherGeneration stored) → ⊥ }
+    ensures failed { IsErrOf result OpenError.Failed → ⊥ }
     ensures spared { OnErr result (SparesOne (with_copies first second) (T.both twin.old) (T.both twin.new)) }
     ensures line { SparesLine (with_copies first second) (T.both twin.old) (T.both twin.new) }
     ensures frame { FrameBoth (T.both twin.old) (T.both twin.new) }
@@ -175,14 +176,14 @@ fn again(
     second: Option<LoadedCopy>,
     mended: Option<Half>,
     lost: Option<Half>,
-) -> Result<TwinStore, TwinOpenError>
+) -> Result<TwinStore, OpenError>
     requires { IsTwice (record { first = first; second = second; mended = mended; lost = lost }) }
     ensures store { IfOk result (λ s. s ≡ record { first = first; second = second; mended = mended; lost = lost }) }
     ensures is_open { IfOk result (λ s. IsOpen s) }
-    ensures failed { OnErr result ((result ≡ Err TwinOpenError.Failed) × (first ≡ None) × (second ≡ None)) }
+    ensures failed { OnErr result ((result ≡ Err OpenError.Failed) × (first ≡ None) × (second ≡ None)) }
 {
     if first.is_none() && second.is_none() {
-        return Err(TwinOpenError::Failed);
+        return Err(OpenError::Failed);
     }
     Ok(TwinStore {
         first,
@@ -193,16 +194,6 @@ fn again(
 }
 
 impl TwinStore {
-    // The sequence of the last commit.
-    fn sequence(&self) -> u64
-        ensures { IsOpen self.now → result ≡ sequence_of self.now }
-    {
-        match self.counted() {
-            Some(copy) => copy.sequence,
-            None => 0,
-        }
-    }
-
     /// Opens the two files that the twin has, and mends nothing. Two empty ones are made where `make` says so, and else
     /// give the empty tables, with no half in use. A copy that stands alone counts; of two copies the one with the greater
     /// sequence, and of two with one sequence the first. The definition asks for two copies.
@@ -260,8 +251,7 @@ impl TwinStore {
         twin: &mut T,
         generation: &Generation,
         fingerprint: &[u8; 32],
-    ) -> Result<(TwinStore, Tables), TwinOpenError>
-        requires double { IsSome generation.now.double }
+    ) -> Result<(TwinStore, Tables), OpenError>
         requires is_open { IsOpen self }
         requires kept { IsTrue (T.both twin.old).told → IsKeptTwice self (T.both twin.old) (T.leaves twin.old) }
         ensures suits { IfOk result (λ o. Suits generation.now o.1) }
@@ -276,14 +266,13 @@ impl TwinStore {
         ensures kept { IfOk result (λ o. IsTrue (T.both twin.old).told → IsKeptTwice o.0 (T.both twin.new) (T.leaves twin.new)) }
 
         // Where the store keeps tables of these texts that suit, it is not refused.
-        ensures refused { (t : TableRows) → KeepsTablesTwice (identity_twice generation.now fingerprint.now) self t → Suits generation.now t → IsErrOf result TwinOpenError.NotKdcfile → IsTrue (T.both twin.old).told → ⊥ }
-        ensures other { (t : TableRows) (stored : List ℕ) → KeepsTablesTwice (identity_twice generation.now fingerprint.now) self t → IsErrOf result (TwinOpenError.OtherGeneration stored) → IsTrue (T.both twin.old).told → ⊥ }
-        ensures spent { (n : ℕ) → IsErrOf result (TwinOpenError.Spent n) → ⊥ }
+        ensures refused { (t : TableRows) → KeepsTablesTwice (identity_twice generation.now fingerprint.now) self t → Suits generation.now t → IsErrOf result OpenError.NotKdcfile → IsTrue (T.both twin.old).told → ⊥ }
+        ensures other { (t : TableRows) (stored : List ℕ) → KeepsTablesTwice (identity_twice generation.now fingerprint.now) self t → IsErrOf result (OpenError.OtherGeneration stored) → IsTrue (T.both twin.old).told → ⊥ }
 
         ensures still { IsTrue (T.both twin.old).told → SameFiles (T.both twin.old) (T.both twin.new) × LeavesBoth (T.both twin.old) (T.both twin.new) (T.leaves twin.old) (T.leaves twin.new) (Unchanged (T.both twin.old) (T.leaves twin.old)) }
-        ensures failed { IsErrOf result TwinOpenError.Failed → (half : Side) → IsInUse half self → RoseAt half (T.both twin.old) (T.both twin.new) }
+        ensures failed { IsErrOf result OpenError.Failed → (half : Side) → IsInUse half self → RoseAt half (T.both twin.old) (T.both twin.new) }
         ensures fine { IfOk result (λ o. (half : Side) → IsInUse half o.0 → SameFaultsAt half (T.both twin.old) (T.both twin.new)) }
-        ensures went { (IsErrOf result TwinOpenError.Failed → ⊥) → FineTwice self (T.both twin.old) (T.both twin.new) }
+        ensures went { (IsErrOf result OpenError.Failed → ⊥) → FineTwice self (T.both twin.old) (T.both twin.new) }
         ensures frame { FrameBoth (T.both twin.old) (T.both twin.new) }
     {
         let TwinStore {

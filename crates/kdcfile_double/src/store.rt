@@ -1,10 +1,11 @@
 //! The two copies of a KDCFILE, as far as they are in use.
 ghost use Rattle.std.specs.Prelude.{◌≡◌};
-ghost use Rattle.kdcfile_double.specs.Twice.{IsTwice};
+ghost use Rattle.kdcfile_double.specs.Twice.{IsTwice, given_up};
 
 use kd_device::Half;
 use kdcfile_copies::LoadedCopy;
 use std::marker::Model;
+use std::mem;
 
 /// A content that is kept twice, on the two halves of a twin. Contracts see the copies that are in use, which keep the
 /// same with the same sequence, and which half was mended or is lost.
@@ -47,5 +48,19 @@ impl TwinStore {
         ensures { result ≡ self.now.lost }
     {
         self.lost
+    }
+
+    /// Takes the copies out: no half is in use any more. It takes no memory.
+    pub fn give_up(&mut self) -> TwinStore
+        ensures taken { result ≡ self.old }
+        ensures left { self.new ≡ given_up self.old }
+    {
+        let left = TwinStore {
+            first: None,
+            second: None,
+            mended: self.mended(),
+            lost: self.lost(),
+        };
+        mem::replace(self, left)
     }
 }

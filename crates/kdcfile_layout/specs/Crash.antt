@@ -15,7 +15,7 @@ AllFree size second l ws = All (IsFree size second l) ws
 
 -- ---- an image is kept where its parts are
 
-pub record IsKept (size : ℕ) (second : Bool) (l : Layout) (h c : List ℕ) : Type 0 where
+pub record KeepsImage (size : ℕ) (second : Bool) (l : Layout) (h c : List ℕ) : Type 0 where
   pub first : (part : List ℕ) → length part ≤ 13 → StandsAt 0 part h → length part ≤ length h → StandsAt 0 part c
   pub root : (part : List ℕ) → length part ≤ 8192 → StandsAt (root_place second) part h → root_place second + length part ≤ length h → StandsAt (root_place second) part c
   pub page : (u : Name) (p : ℕ) (part : List ℕ) → Names l u p → length part ≤ size → StandsAt (page_place size p) part h → page_place size p + length part ≤ length h → StandsAt (page_place size p) part c

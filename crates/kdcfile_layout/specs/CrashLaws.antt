@@ -20,7 +20,7 @@ use Rattle.kdcfile_layout.specs.declared.page.PageWrite.{PageWrite}
 use Rattle.kdcfile_layout.specs.WritesLaws.{longer}
 use Rattle.kdcfile_layout.specs.Writes.{written_all, IsApart, Keeps, KeepsOrSelects}
 use Rattle.kdcfile_layout.specs.PagesLaws.{parts_named}
-use Rattle.kdcfile_layout.specs.Crash.{AllFree, IsKept}
+use Rattle.kdcfile_layout.specs.Crash.{AllFree, KeepsImage}
 
 -- ---- sizes
 
@@ -76,7 +76,7 @@ module _ (i : Identity) (second : Bool) (x : Content) (l : Layout) (h : List ℕ
   pub long : 8256 ≤ length h
   long = omega (arith, root_inside, root_at second, length_root i x l.directory image.identity.fingerprint)
 
-  image_kept : (c : List ℕ) → IsKept i.blksize second l h c → IsImage i second x l c
+  image_kept : (c : List ℕ) → KeepsImage i.blksize second l h c → IsImage i second x l c
   image_kept c kept = record {
     identity = image.identity;
     content = image.content;
@@ -126,7 +126,7 @@ module _ (size : ℕ) (second : Bool) (l : Layout) (ws : List PageWrite) (free :
       root_upto true = omega arith
       root_upto false = omega arith
 
-  kept_apart : (h c : List ℕ) → Keeps ws h c → IsKept size second l h c
+  kept_apart : (h c : List ℕ) → Keeps ws h c → KeepsImage size second l h c
   kept_apart h c keeps = record {
     first = λ part le stands inside. keeps.stands 0 part stands (omega (arith, inside)) (apart_first 0 (length part) (omega (arith, le)));
     root = λ part le stands inside. keeps.stands (root_place second) part stands inside (apart_root (length part) le);
@@ -134,7 +134,7 @@ module _ (size : ℕ) (second : Bool) (l : Layout) (ws : List PageWrite) (free :
     no_shorter = keeps.no_shorter;
   }
 
-kept_selector : (size : ℕ) (second : Bool) (l : Layout) (h c : List ℕ) → Torn 4096 4097 h c → IsKept size second l h c
+kept_selector : (size : ℕ) (second : Bool) (l : Layout) (h c : List ℕ) → Torn 4096 4097 h c → KeepsImage size second l h c
 kept_selector size second l h c torn = record {
   first = λ part le stands inside. stands_below 4096 4097 h c torn 0 part stands (omega (arith, le));
   root = λ part le stands inside. stands_above 4096 4097 h c torn (root_place second) part stands (omega (arith, root_at second));

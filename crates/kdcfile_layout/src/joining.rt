@@ -30,40 +30,37 @@ fn both(write: PageWrite, next: &PageWrite) -> Result<PageWrite, OutOfMemory>
 }
 
 // Adds a write.
-fn put_apart(alloc: Global, to: &mut Vec<PageWrite>, next: &PageWrite) -> Result<(), OutOfMemory>
-    ensures { OnOk result (to.new.items ≡ to.old.items ++ next.now ∷ []) }
+fn put_apart(to: &mut Vec<PageWrite>, next: PageWrite) -> Result<(), OutOfMemory>
+    ensures { OnOk result (to.new.items ≡ to.old.items ++ next ∷ []) }
 {
-    to.push(PageWrite {
-        at: next.at,
-        bytes: Bytes::from_vec(Vec::from_slice(alloc, next.bytes.as_slice())?),
-    })?;
+    to.push(next)?;
     Ok(())
 }
 
 // Adds a write, joined with the last one where it follows that.
-fn put_joined(alloc: Global, to: &mut Vec<PageWrite>, next: &PageWrite) -> Result<(), OutOfMemory>
-    ensures { OnOk result ((ws : List PageWrite) → AreJoined ws to.old.items → AreJoined (ws ++ next.now ∷ []) to.new.items) }
+fn put_joined(to: &mut Vec<PageWrite>, next: PageWrite) -> Result<(), OutOfMemory>
+    ensures { OnOk result ((ws : List PageWrite) → AreJoined ws to.old.items → AreJoined (ws ++ next ∷ []) to.new.items) }
 {
     match to.pop() {
-        None => put_apart(alloc, to, next),
+        None => put_apart(to, next),
         Some(last) => {
-            if follows(&last, next) {
-                to.push(both(last, next)?)?;
+            if follows(&last, &next) {
+                to.push(both(last, &next)?)?;
                 return Ok(());
             }
             to.push(last)?;
-            put_apart(alloc, to, next)
+            put_apart(to, next)
         }
     }
 }
 
 /// These writes, where each of pages is one with the next ones that begin where it ends.
-pub fn joined(alloc: Global, writes: &[PageWrite]) -> Result<Vec<PageWrite>, OutOfMemory>
-    ensures { IfOk result (λ v. AreJoined writes.now v.items) }
+pub fn joined(alloc: Global, writes: Vec<PageWrite>) -> Result<Vec<PageWrite>, OutOfMemory>
+    ensures { IfOk result (λ v. AreJoined writes.items v.items) }
 {
     let mut out = Vec::new(alloc);
     for write in writes {
-        put_joined(alloc, &mut out, write)?;
+        put_joined(&mut out, write)?;
     }
     Ok(out)
 }

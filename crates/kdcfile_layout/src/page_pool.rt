@@ -1,8 +1,8 @@
 //! Which pages of a KDCFILE are used: a pool of pages, each free or used, and plans of the pages that a commit takes
 //! and frees.
 //!
-//! It stands on kd_base. To what writes a file, its contract says that planned pages are distinct and free, that a plan
-//! costs what is planned and freed and not the number of pages, and which pages are used after a plan is settled.
+//! It stands on kd_base. To what writes a file, its contract says that planned pages are distinct and free, and which
+//! pages are used after a plan is settled.
 ghost use Rattle.std.specs.Prelude.{◌≡◌, ◌≤◌, ◌<◌, ◌+◌, ◌++◌, ◌^◌, ◌-◌, ℕ, true, false, not, List, length, set, replicate, take, drop, IsTrue, IfOk, OnOk, All};
 ghost use Rattle.kdcfile_layout.specs.Places.{At, IsDistinct};
 ghost use Rattle.kdcfile_layout.specs.Pools.{IsPool, IsCountedDown, AreLast, ArePlanned, free_count, flagged, moved_order, moved_place};
@@ -133,7 +133,7 @@ impl Pool {
     }
 
     /// The planned pages become used, and then the freed ones free. It takes no memory.
-    pub fn settle(&mut self, plan: Plan)
+    pub fn carry_out(&mut self, plan: Plan)
         requires few { length self.old < 2 ^ 32 }
         requires planned { ArePlanned self.old (length plan.pages) plan.pages }
         requires distinct { IsDistinct plan.freed }

@@ -5,7 +5,6 @@ use Rattle.kd_records.specs.declared.content.Content.{Content}
 use Rattle.kd_records.specs.declared.content.Patch.{Patch}
 use Rattle.kd_records.specs.Contents.{patched}
 use Rattle.kd_records.specs.Identity.{Identity}
-use Rattle.kdcfile_layout.specs.declared.page.PageWrite.{PageWrite}
 use Rattle.kdcfile_layout.specs.Layout.{Layout, Stands, StandsFor}
 use Rattle.kdcfile_layout.specs.declared.kdcfile_images.image.Root.{Root}
 use Rattle.kdcfile_layout.specs.Commit.{ArePages, IsApartFrom, WouldBe, Either, LeavesEither}
@@ -22,23 +21,22 @@ module _ {i : Opened} {x : Content} {l : Layout} {used : List Bool} {patch : Pat
   pool : n.root.pgpool ≡ i.root.pgpool
   pool = ap (λ (r : Root). r.pgpool) next.root
 
-  module _ (writes : List PageWrite) (writes_are : writes ≡ n.writes.items) where
-    pub are_pages : ArePages i.blksize n.root.pgpool writes
-    are_pages = rw (writes_are, pool) next.pages
+  pub are_pages : ArePages i.blksize n.root.pgpool n.writes.items
+  are_pages = rw pool next.pages
 
-    pub apart : (h : List ℕ) → Stands (identity_of i) i.second x l h → IsApartFrom i x l writes h
-    apart h stands = record { stands = stands; free = rw writes_are next.apart }
+  pub apart : (h : List ℕ) → Stands (identity_of i) i.second x l h → IsApartFrom i x l n.writes.items h
+  apart h stands = record { stands = stands; free = next.apart }
 
-    pub would_be : (h : List ℕ) → Stands (identity_of i) i.second x l h → WouldBe i writes n.root n.filing.content.content (layout_in n.root n.filing.table.slots) h
-    would_be h stands = rw writes_are (next.would_be h stands)
+  pub would_be : (h : List ℕ) → Stands (identity_of i) i.second x l h → WouldBe i n.writes.items n.root n.filing.content.content (layout_in n.root n.filing.table.slots) h
+  would_be h stands = next.would_be h stands
 
-    pub leaves_patched : (a d : State) (la ld : ℕ → List ℕ → List ℕ → Type 0) → Stands (identity_of i) i.second x l a.holds → LeavesEither i writes n.root a d la ld → LeavesOnly a d la ld (OldOrNew (StandsFor (identity_of i)) x (patched x patch) a.sent)
-    leaves_patched a d la ld stands leaves =
-        subst (λ (y : Content). LeavesOnly a d la ld (Either (identity_of i) x (identity_of i) y a.sent)) next.content
-        (subst (λ (j : Identity). LeavesOnly a d la ld (Either (identity_of i) x j n.filing.content.content a.sent)) same
-        (leaves x n.filing.content.content l (layout_in n.root n.filing.table.slots) (apart a.holds stands) (would_be a.holds stands)))
+  pub leaves_patched : (a d : State) (la ld : ℕ → List ℕ → List ℕ → Type 0) → Stands (identity_of i) i.second x l a.holds → LeavesEither i n.writes.items n.root a d la ld → LeavesOnly a d la ld (OldOrNew (StandsFor (identity_of i)) x (patched x patch) a.sent)
+  leaves_patched a d la ld stands leaves =
+      subst (λ (y : Content). LeavesOnly a d la ld (Either (identity_of i) x (identity_of i) y a.sent)) next.content
+      (subst (λ (j : Identity). LeavesOnly a d la ld (Either (identity_of i) x j n.filing.content.content a.sent)) same
+      (leaves x n.filing.content.content l (layout_in n.root n.filing.table.slots) (apart a.holds stands) (would_be a.holds stands)))
 
-    pub new_stands : (o : Opened) (h g : List ℕ) → o ≡ record i { root = n.root; second = not i.second } → Stands (identity_of i) i.second x l h
-        → ((y : Content) (m : Layout) → WouldBe i writes n.root y m h → Stands (renewed i n.root) (not i.second) y m g) → Stands (identity_of o) o.second n.filing.content.content (layout_in o.root n.filing.table.slots) g
-    new_stands o h g is stands after =
-        rw is (after n.filing.content.content (layout_in n.root n.filing.table.slots) (would_be h stands))
+  pub new_stands : (o : Opened) (h g : List ℕ) → o ≡ record i { root = n.root; second = not i.second } → Stands (identity_of i) i.second x l h
+      → ((y : Content) (m : Layout) → WouldBe i n.writes.items n.root y m h → Stands (renewed i n.root) (not i.second) y m g) → Stands (identity_of o) o.second n.filing.content.content (layout_in o.root n.filing.table.slots) g
+  new_stands o h g is stands after =
+      rw is (after n.filing.content.content (layout_in n.root n.filing.table.slots) (would_be h stands))

@@ -28,7 +28,7 @@ use Rattle.page_drafts.specs.OnPlanLaws.{pages_there}
 use Rattle.page_drafts.specs.WholeDrafts.{unwritten, CanPrepareWhole}
 use Rattle.page_drafts.specs.WholeCommitsLaws.{whole_count, whole_most, whole_free, whole_stored, whole_would_be}
 use Rattle.kdcfile_store.specs.declared.carrying.Whole.{Whole}
-use Rattle.kdcfile_store.specs.Whole.{widened, whole_pages, used_by, AreUsed, CanDraftWhole, IsWholeDraft, IsWhole}
+use Rattle.kdcfile_store.specs.Whole.{widened, whole_pages, used_by, AreUsed, CanDraftWhole, IsWholeDraft, IsWholeContent}
 
 -- ---- the plan's pages are there, and the image that is selected names none of them
 
@@ -138,7 +138,7 @@ module _ (j : Identity) (is : IsIdentity j) (y : Content) (content : IsContent y
     apart : (l : Layout) → AreUsed l used → IsUnnamed l plan
     apart = plan_unnamed j.blksize j.pages used wide _ plan planned
 
-    pub is_whole : IsWhole used j y w
+    pub is_whole : IsWholeContent used j y w
     is_whole = record {
       content = content_is;
       root = rw root_is refl;

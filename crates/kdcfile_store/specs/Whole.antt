@@ -54,7 +54,7 @@ AreUsed l used = (u : Name) (p : ℕ) → Names l u p → At used p true
 
 -- the content with its root; whole pages that no image on used pages names, with which, and the root, the other image
 -- is that content's; and the pool, so that all is stored
-pub record IsWhole (used : List Bool) (j : Identity) (y : Content) (w : Whole) : Type 0 where
+pub record IsWholeContent (used : List Bool) (j : Identity) (y : Content) (w : Whole) : Type 0 where
   pub content : w.filed.content ≡ y
   pub root : w.root ≡ root_for j y w.root.directory
   pub pages : ArePages j.blksize j.pages w.writes.items

@@ -5,7 +5,7 @@ ghost use Rattle.kdcfile_layout.specs.Pools.{ArePlanned, free_count};
 ghost use Rattle.kdcfile_layout.specs.Layout.{page_count as page_count_of};
 ghost use Rattle.kdcfile_layout.specs.Opened.{root_for};
 ghost use Rattle.page_drafts.specs.Drafts.{IsPlan};
-ghost use Rattle.kdcfile_store.specs.{Paged.{identity_with}, Whole.{CanDraftWhole, IsWhole, IsWholeDraft, used_by, whole_pages, widened}};
+ghost use Rattle.kdcfile_store.specs.{Paged.{identity_with}, Whole.{CanDraftWhole, IsWholeContent, IsWholeDraft, used_by, whole_pages, widened}};
 
 use crate::filed::Filed;
 use crate::fresh::fresh_table;
@@ -128,7 +128,7 @@ pub(crate) fn make_whole(
     requires wider { length pool.now ≤ page_count_of limits.now.blksize limits.now.pgpool }
     requires few { length pool.now < 2 ^ 32 }
     requires enough { whole_pages limits.now.blksize limits.now.pgpool content.items ≤ free_count (widened limits.now.blksize limits.now.pgpool pool.now) }
-    ensures { IfOk result (λ w. IsWhole pool.now (identity_with limits.now fingerprint.now) content w) }
+    ensures { IfOk result (λ w. IsWholeContent pool.now (identity_with limits.now fingerprint.now) content w) }
 {
     let records = content.items.as_slice();
     let plan = whole_plan(alloc, limits, pool, records)?;

@@ -1,6 +1,6 @@
 //! What is kept: a content of records in a KDCFILE, changed by commits that are whole or absent.
 //!
-//! It stands on kdcfile_load, kdcfile_images and page_drafts, whose disk rules it turns into one promise, and on
+//! It stands on kdcfile_layout, kdcfile_load and page_drafts, whose disk rules it turns into one promise, and on
 //! kd_records. To the monitor's run, the trait `Store` says that at every stop the file stands for the content with the
 //! patch or without it, after an `Ok` for the new content alone, and how many bytes a commit writes at most. The trait
 //! names contents and nothing of images or pages; `PagedStore` keeps them in pages, and a commit writes only what it

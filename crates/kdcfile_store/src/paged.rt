@@ -155,7 +155,7 @@ impl PagedStore {
             root,
             writes,
         } = whole;
-        commit_image(alloc, device, &mut self.image, writes.as_slice(), root)?;
+        commit_image(alloc, device, &mut self.image, writes, root)?;
         self.filed = filed;
         self.pool = pool;
         Ok(())
@@ -224,10 +224,10 @@ impl<D: Device> Store<D> for PagedStore {
             writes,
             last,
         } = next;
-        match commit_image(alloc, device, &mut self.image, writes.as_slice(), root) {
+        match commit_image(alloc, device, &mut self.image, writes, root) {
             Ok(()) => {
                 self.filed = filing.done();
-                self.pool.settle(last);
+                self.pool.carry_out(last);
                 Ok(())
             }
             Err(error) => {

@@ -8,7 +8,7 @@ use Rattle.kd_records.specs.declared.content.Content.{Content}
 use Rattle.kdcfile_store.specs.Paged.{Paged}
 use Rattle.kdcs_types.specs.declared.act.Row.{Row}
 use Rattle.kdcs_types.specs.Tables.{TableRows}
-use Rattle.application_check.specs.Soundness.{AreLimits}
+use Rattle.application_types.specs.Soundness.{AreLimits}
 use Rattle.application_types.specs.Generation.{Generated}
 use Rattle.record_codec.specs.PatchesLaws.{each_row, each_unmapped}
 use Rattle.record_codec.specs.Records.{content_of_tables, rows_of}

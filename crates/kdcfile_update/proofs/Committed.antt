@@ -15,7 +15,7 @@ use Rattle.kdcfile_store.specs.Paged.{Paged, identity_with}
 use Rattle.kdcfile_store.specs.declared.store.StoreLimits.{StoreLimits}
 use Rattle.kdcs_types.specs.declared.act.Act.{Act}
 use Rattle.kdcs_types.specs.Tables.{TableRows}
-use Rattle.application_check.specs.Soundness.{AreLimits}
+use Rattle.application_types.specs.Soundness.{AreLimits}
 use Rattle.application_types.specs.Generation.{Generated}
 use Rattle.abstract_monitor.specs.Trace.{tables_after, bytes_of}
 use Rattle.record_codec.specs.Records.{content_of_tables}

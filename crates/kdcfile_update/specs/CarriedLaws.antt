@@ -3,7 +3,7 @@ use Rattle.std.specs.Prelude.{◌≡◌, ℕ, ◌∷◌, [], option_and_then, Ok
 use Rattle.kdcs_types.specs.declared.key.Key.{Key}
 use Rattle.kdcs_types.specs.Tables.{TableRows, row_at, IsSortedTables}
 use Rattle.application_types.specs.Generation.{Generated}
-use Rattle.application_check.specs.Soundness.{AreLimits}
+use Rattle.application_types.specs.Soundness.{AreLimits}
 use Rattle.laws_of_states.specs.Suits.{Suits}
 use Rattle.record_codec.specs.TableReadings.{AreProperTables}
 use Rattle.kdcfile_update.specs.Carrying.{refitted, carried, carried_row}

@@ -8,7 +8,7 @@ use Rattle.kdcs_types.specs.declared.act.Row.{Row}
 use Rattle.kdcs_types.specs.declared.service.Service.{Service}
 use Rattle.kdcs_types.specs.Tables.{gssb_row, job_row, service_row, shown_row, tls_row, uls_row}
 use Rattle.application_types.specs.Generation.{Generated}
-use Rattle.application_check.specs.Soundness.{AreLimits}
+use Rattle.application_types.specs.Soundness.{AreLimits}
 use Rattle.abstract_monitor.specs.Bytes.{Bytes}
 use Rattle.laws_of_states.specs.Suits.{gssb_suits, job_suits, shown_suits, tls_suits, uls_suits}
 use Rattle.record_codec.specs.PatchesLaws.{all_rows, each_row}

@@ -67,7 +67,7 @@ abbrev pub UpdateAnswersExcludeEachOther : Type 0
 UpdateAnswersExcludeEachOther = (g : Generated) (fingerprint bytes : List ℕ) → HasOneUpdate g fingerprint bytes
 
 -- the tables with which an application goes on from a file that is taken are in order and suit it
-pub record GoesOn (g : Generated) (t : TableRows) : Type 0 where
+pub record TablesSuit (g : Generated) (t : TableRows) : Type 0 where
   pub tables : AreTables t
   pub suits : Suits g t
 

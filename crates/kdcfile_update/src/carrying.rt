@@ -2,7 +2,7 @@
 ghost use Rattle.std.specs.Prelude.{◌≡◌, ◌⊎◌, IsTrue, Ok, Err, IfOk, OnOk, IsErrOf};
 ghost use Rattle.kd_device.specs.Device.{Rose, SameFaults};
 ghost use Rattle.kdcfile_store.specs.{Kept.{IsKept}, Paged.{HasFile}};
-ghost use Rattle.application_check.specs.Soundness.{AreLimits};
+ghost use Rattle.application_types.specs.Soundness.{AreLimits};
 ghost use Rattle.record_codec.specs.Records.{content_of_tables};
 ghost use Rattle.kdcfile_update.specs.Carrying.{carried, dropped};
 ghost use Rattle.kdcfile_update.specs.declared.kd_update.error.UpdateError.{UpdateError as Cause};
@@ -13,7 +13,7 @@ use crate::error::CarryError;
 use crate::kd_update::{Dropped, carried, judge};
 use crate::report::carried_report;
 use crate::sending::send;
-use application_check::kdcdef_check::Generation;
+use application_types::generation::Generation;
 use device_acts::warm_start::limits_of;
 use kd_device::Device;
 use kd_records::Content;

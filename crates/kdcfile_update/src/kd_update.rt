@@ -1,6 +1,6 @@
 //! Tables that are carried to a new generation: what becomes of them, and whether they may be carried.
 //!
-//! It stands on table_fit, service_parts, application_check, kdcs_types and the definitions of laws_of_states. To the
+//! It stands on table_fit, service_parts, application_types, kdcs_types and the definitions of laws_of_states. To the
 //! program, its definitions say what becomes of each row and for which five reasons tables may not be carried. Its
 //! contract says that `carried` answers just those tables, and how many rows of each kind went; that `judge` answers
 //! just the first reason; that carried tables are in order and proper where the old ones are, and suit where they may

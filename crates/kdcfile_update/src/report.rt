@@ -5,7 +5,7 @@ ghost use Rattle.kdcs_types.specs.Tables.{TableRows};
 ghost use Rattle.kdcfile_update.specs.Carrying.{carried, dropped};
 
 use crate::kd_update::Dropped;
-use application_check::kdcdef_check::Generation;
+use application_types::generation::Generation;
 use kd_base::{Bytes, OutOfMemory};
 use kdcs_types::{Act, Acts};
 use std::alloc::{AllocError, Global};

@@ -13,7 +13,7 @@ use crate::error::CarryError;
 use crate::kd_update::UpdateError;
 use crate::report::up_to_date_report;
 use crate::sending::send;
-use application_check::kdcdef_check::Generation;
+use application_types::generation::Generation;
 use device_acts::warm_start::open_any;
 use kd_device::Device;
 use kdcfile_store::PagedStore;

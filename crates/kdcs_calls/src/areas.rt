@@ -9,7 +9,7 @@ ghost use Rattle.kdcs_calls.specs.Parts.{accessed_by, accessed_in, asked_in, hel
 use crate::answer::{read_or, read_reply, replied};
 use crate::lock::{lock, touches};
 use crate::operand::{Owner, area_in};
-use crate::outside::Outside;
+use crate::outside::CallOutside;
 use abstract_monitor::Called;
 use kd_base::{Bytes, OutOfMemory};
 use kdcs_types::{Area, Code, Note, Tables};
@@ -75,7 +75,7 @@ fn delete(
 
 // What a call does with an area that the transaction holds.
 fn access_held(
-    outside: &Outside,
+    outside: &CallOutside,
     transaction: &mut OpenTransaction,
     area: Area,
     access: Access,
@@ -102,7 +102,7 @@ fn access_held(
 
 // The calls that lock the area first.
 fn access_locked(
-    outside: &Outside,
+    outside: &CallOutside,
     locks: &mut LockTable,
     transaction: &mut OpenTransaction,
     area: Result<Area, Code>,
@@ -128,7 +128,7 @@ fn access_locked(
 
 /// The calls that lock the area in their operand first.
 pub(crate) fn access_area(
-    outside: &Outside,
+    outside: &CallOutside,
     locks: &mut LockTable,
     transaction: &mut OpenTransaction,
     owner: Owner,
@@ -159,7 +159,7 @@ fn content(tables: &Tables, area: &Area) -> Result<Option<Bytes>, OutOfMemory>
 
 // UNLK: K06 where the transaction does not hold the area, K07 where it wrote or deleted it.
 fn unlock_held(
-    outside: &Outside,
+    outside: &CallOutside,
     locks: &mut LockTable,
     transaction: &mut OpenTransaction,
     area: Result<Area, Code>,
@@ -187,7 +187,7 @@ fn unlock_held(
 
 /// UNLK of the area in the operand.
 pub(crate) fn unlock(
-    outside: &Outside,
+    outside: &CallOutside,
     locks: &mut LockTable,
     transaction: &mut OpenTransaction,
     owner: Owner,

@@ -10,10 +10,10 @@ use crate::jobs::{moment_in, put_job};
 use crate::locals::{Local, access_local};
 use crate::messages::{get, put};
 use crate::operand::Owner;
-use crate::outside::Outside;
+use crate::outside::CallOutside;
 use crate::pend::pend;
 use abstract_monitor::{Called, Due};
-use application_check::kdcdef_check::Generation;
+use application_types::generation::Generation;
 use kd_base::OutOfMemory;
 use kdcs_types::{Call, Cause, Code, ServiceId, Tables};
 use monitor_parts::area_locks::LockTable;
@@ -56,7 +56,7 @@ fn first_call(transaction: &mut OpenTransaction, call: &Call) -> Called
 // A call, once INIT is done.
 #[tactic(auto, unfolding(abstract_monitor::specs::Calls::called))]
 fn later_call(
-    outside: &Outside,
+    outside: &CallOutside,
     locks: &mut LockTable,
     transaction: &mut OpenTransaction,
     call: &Call,
@@ -158,7 +158,7 @@ pub fn perform(
     if !open_work.inited {
         return Ok(first_call(open_work, call));
     }
-    let outside = Outside {
+    let outside = CallOutside {
         alloc,
         generation,
         tables,

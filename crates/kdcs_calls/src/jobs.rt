@@ -9,7 +9,7 @@ ghost use Rattle.open_transaction.specs.Drafts.{IsInTicks};
 use crate::answer::replied;
 use crate::operand::name_in;
 use abstract_monitor::{Called, Due};
-use application_check::kdcdef_check::Generation;
+use application_types::generation::Generation;
 use application_types::kdcdef_types::{CallUse, TacEntry};
 use kd_base::{Bytes, Mode, Name, OutOfMemory};
 use kdcs_types::{Cause, Code, Target};

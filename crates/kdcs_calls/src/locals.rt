@@ -7,7 +7,7 @@ ghost use Rattle.kdcs_calls.specs.{Calling.{IsShort}, Parts.{local_by}};
 use crate::answer::{read_or, read_reply, replied};
 use crate::operand::name_in;
 use abstract_monitor::Called;
-use application_check::kdcdef_check::Generation;
+use application_types::generation::Generation;
 use kd_base::{Bytes, Name, OutOfMemory};
 use kdcs_types::Code;
 use open_transaction::OpenTransaction;

@@ -6,7 +6,7 @@ ghost use Rattle.open_transaction.specs.Transactions.{transaction_of};
 ghost use Rattle.kdcs_calls.specs.{Calling.{HoldsJust}, Parts.{AnswersLock, after_lock}};
 
 use crate::answer::replied;
-use crate::outside::Outside;
+use crate::outside::CallOutside;
 use abstract_monitor::{Called, LockAnswer};
 use kd_base::OutOfMemory;
 use kdcs_types::{Area, Code, Note};
@@ -55,7 +55,7 @@ fn take_answer(
 
 /// Asks for the lock of an area. `None` where the transaction has it, else what the call answers without it.
 pub(crate) fn lock(
-    outside: &Outside,
+    outside: &CallOutside,
     locks: &mut LockTable,
     transaction: &mut OpenTransaction,
     area: &Area,

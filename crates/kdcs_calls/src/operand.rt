@@ -3,7 +3,7 @@ ghost use Rattle.std.specs.Prelude.{◌≡◌};
 ghost use Rattle.abstract_monitor.specs.Calls.{name_in_operand, name_by};
 ghost use Rattle.kdcs_calls.specs.{Calling.{is_declared}, Parts.{area_by, named_by}};
 
-use application_check::kdcdef_check::Generation;
+use application_types::generation::Generation;
 use kd_base::{Bytes, Name, trim_end};
 use kdcs_types::{Area, Code};
 

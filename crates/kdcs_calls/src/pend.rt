@@ -5,7 +5,7 @@ ghost use Rattle.open_transaction.specs.Transactions.{transaction_of};
 
 use crate::operand::name_if_given;
 use abstract_monitor::{Called, Denial};
-use application_check::kdcdef_check::Generation;
+use application_types::generation::Generation;
 use application_types::kdcdef_types::TacEntry;
 use kd_base::{Bytes, Name, Variant};
 use monitor_parts::access_rules::decide;

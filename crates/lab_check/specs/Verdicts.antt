@@ -1,7 +1,7 @@
 -- What texts are taken for, and what is told of it.
 use Rattle.std.specs.Prelude.{ℕ, List, ◌∷◌, ◌≡◌, false}
 use Rattle.std.specs.List.{All}
-use Rattle.application_check.specs.Fitted.{IsFit}
+use Rattle.application_types.specs.Fitted.{IsFit}
 use Rattle.application_read.specs.declared.fault.ApplicationFault.{ApplicationFault}
 use Rattle.application_read.specs.Faults.{text_of, line_of, name_of}
 use Rattle.application_read.specs.Texts.{TextsGenerate, TextsHaveFault, is_memory}

@@ -4,7 +4,7 @@ ghost use Rattle.lab_check.specs.Verdicts.{AddsOfScript};
 
 use crate::lab_findings::{Details, Refusals, TextName};
 use crate::unit_details::command_detail;
-use application_check::kdcdef_check::Generation;
+use application_types::generation::Generation;
 use kd_base::OutOfMemory;
 use script_read::{ScriptFault, read_script};
 use std::alloc::Global;

@@ -3,8 +3,8 @@
 use crate::definition_details::with_right;
 use crate::draft::Draft;
 use crate::lab_findings::{LineKind, first_word, is_near, kind_of, up_to_last, without_blanks};
-use application_check::kdcdef_check::Generation;
 use application_check::unit_check::FitFault;
+use application_types::generation::Generation;
 use kd_base::{Bytes, OutOfMemory, ProgName};
 use std::alloc::Global;
 use unit_read::UnitFault;

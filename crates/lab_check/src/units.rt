@@ -5,9 +5,10 @@ use crate::draft::Draft;
 use crate::lab_findings::{Details, LineKind, Refusals, TextName, first_word, kind_of};
 use crate::parts::joined;
 use crate::unit_details::{fit_detail, unit_detail};
-use application_check::kdcdef_check::Generation;
-use application_check::unit_check::{FitFault, Units, fit};
+use application_check::unit_check::{FitFault, fit};
+use application_types::generation::Generation;
 use application_types::unit_types::Unit;
+use application_types::units::Units;
 use kd_base::{Bytes, OutOfMemory, ProgName};
 use std::alloc::Global;
 use unit_read::{UnitFault, read_units};
@@ -158,14 +159,16 @@ fn mend_fit(
     Ok(true)
 }
 
-// The fault of a text of units that has none by itself, or none.
+// Why the units that the text spells do not fit, if they do not; a text that spells none has no such fault.
 fn fit_fault(
     alloc: Global,
     draft: &Draft,
     generation: &Generation,
 ) -> Result<Option<FitFault>, OutOfMemory> {
-    let Ok(units) = read_units(alloc, draft.text(alloc)?.as_slice()) else {
-        return Err(OutOfMemory);
+    let units = match read_units(alloc, draft.text(alloc)?.as_slice()) {
+        Ok(units) => units,
+        Err(UnitFault::Memory) => return Err(OutOfMemory),
+        Err(_) => return Ok(None),
     };
     match fit(alloc, units, generation) {
         Ok(_) => Ok(None),

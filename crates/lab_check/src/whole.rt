@@ -8,9 +8,9 @@ use crate::definition::definition_refusals;
 use crate::lab_findings::{Details, Refusal, Refusals, TextName};
 use crate::script::script_refusals;
 use crate::units::units_refusals;
-use application_check::kdcdef_check::Generation;
 use application_check::unit_check::FitFault;
 use application_read::{Application, ApplicationFault, read_application};
+use application_types::generation::Generation;
 use kd_base::OutOfMemory;
 use std::alloc::Global;
 

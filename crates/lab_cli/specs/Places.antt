@@ -2,7 +2,7 @@
 use Rattle.laws_of_states.specs.Suits.{Suits}
 use Rattle.laws_of_states.specs.Keeping.{IsScriptOf}
 use Rattle.laws_of_runs.specs.Applied.{applied}
-use Rattle.application_check.specs.Fitted.{IsFit}
+use Rattle.application_types.specs.Fitted.{IsFit}
 use Rattle.lab_cli.specs.declared.reading.Place.{Place}
 
 -- the units were fitted to the generation, the tables suit it, and the script names what it has

@@ -1,6 +1,6 @@
 //! `explore`: the distinct outcomes of the orders of the tasks.
 ghost use Rattle.std.specs.{Prelude.{◌≡◌, ◌≤◌, ◌^◌, true, false, cond, IfOk, IfSome, IsTrue, sum_by}, List.{list_any}};
-ghost use Rattle.application_check.specs.Fitted.{IsFit};
+ghost use Rattle.application_types.specs.Fitted.{IsFit};
 ghost use Rattle.laws_of_runs.specs.Applied.{applied};
 ghost use Rattle.laws_of_states.specs.{Keeping.{IsScriptOf}, Suits.{Suits}};
 ghost use Rattle.lab_orders.specs.{Exploring.{AreAll, AreDistinct, AreOutcomes}, Walking.{tries_of}};

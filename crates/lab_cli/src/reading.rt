@@ -3,12 +3,12 @@ ghost use Rattle.std.specs.Prelude.{IfOk, All, IsSome};
 ghost use Rattle.abstract_monitor.specs.CommandsOf.{IsCommandOf};
 ghost use Rattle.laws_of_states.specs.Suits.{Suits};
 ghost use Rattle.lab_cli.specs.Places.{CanStart};
-ghost use Rattle.application_check.specs.Fitted.{IsFit};
+ghost use Rattle.application_types.specs.Fitted.{IsFit};
 
 use crate::stop::Stop;
 use abstract_monitor::Command;
-use application_check::kdcdef_check::Generation;
 use application_read::{Application, read_application};
+use application_types::generation::Generation;
 use device_acts::warm_start::{OpenError, fingerprint_of, read_tables};
 use kd_base::Bytes;
 use kd_device::{MemTwin, Room, SureDevice, Twin};

@@ -3,7 +3,7 @@ use Rattle.std.proofs.Common.{◌≡◌, ℕ, ◌<◌, ◌≤◌, List, [], ◌�
 use Rattle.std.specs.Prelude.{◌⊎◌, Bool, true, false, cond, ◌==◌}
 use Rattle.std.proofs.lemmas.Bool.{eqb-true}
 use Rattle.lab_orders.specs.Beyond.{IsBeyond, IsPast, least_past, guide_behind}
-use Rattle.lab_orders.specs.Reaching.{Along, GoesOn}
+use Rattle.lab_orders.specs.Reaching.{Along, OrderGoesOn}
 
 -- ---- what is beyond
 
@@ -98,7 +98,7 @@ guided_behind guide taken (x ∷ xs) t (inr is) = by (t == x) refl
 module _ {Whole Here : List ℕ → Type 0} {Can : ℕ → Type 0} {Behind : ℕ → List ℕ → Type 0} (choice : IsChoice Here Can Behind) (guide taken rest : List ℕ) (along : Along Whole Here guide taken rest) where
   -- the least one past the guide is taken
   module _ (t : ℕ) (can : Can t) (least : (u : ℕ) → least_past rest ≤ u → Can u → t ≤ u) where
-    step : (o b : List ℕ) (u : ℕ) → o ≡ taken ++ u ∷ b → Can u → Behind u b → IsPast rest (u ∷ b) → (t < u) ⊎ (t ≡ u) → IsBeyond (taken ++ t ∷ []) o ⊎ GoesOn (Behind t) (taken ++ t ∷ []) (guide_behind t rest) o
+    step : (o b : List ℕ) (u : ℕ) → o ≡ taken ++ u ∷ b → Can u → Behind u b → IsPast rest (u ∷ b) → (t < u) ⊎ (t ≡ u) → IsBeyond (taken ++ t ∷ []) o ⊎ OrderGoesOn (Behind t) (taken ++ t ∷ []) (guide_behind t rest) o
     step o b u is can_u behind past (inl lt) = inl (subst (IsBeyond (taken ++ t ∷ [])) (sym is) (beyond_here taken t u b lt))
     step o b u is can_u behind past (inr same) = inr (record {
       behind = b;
@@ -114,7 +114,7 @@ module _ {Whole Here : List ℕ → Type 0} {Can : ℕ → Type 0} {Behind : ℕ
         by true e = inr (eqb-true t u e)
         by false e = inl (grind (arith, le, e))
 
-    goes : (o : List ℕ) → GoesOn Here taken rest o → IsBeyond (taken ++ t ∷ []) o ⊎ GoesOn (Behind t) (taken ++ t ∷ []) (guide_behind t rest) o
+    goes : (o : List ℕ) → OrderGoesOn Here taken rest o → IsBeyond (taken ++ t ∷ []) o ⊎ OrderGoesOn (Behind t) (taken ++ t ∷ []) (guide_behind t rest) o
     goes o g =
         let s = choice.split g.behind g.here in
         let past : IsPast rest (s.0 ∷ s.1) = subst (IsPast rest) s.2 g.past in
@@ -130,12 +130,12 @@ module _ {Whole Here : List ℕ → Type 0} {Can : ℕ → Type 0} {Behind : ℕ
   pub along_failed : 1 ≤ least_past rest → ((u : ℕ) → least_past rest ≤ u → Can u → ⊥) → (before : List ℕ) (x : ℕ) → guide ≡ before ++ x ∷ [] → (o : List ℕ) → Whole o → IsPast guide o → IsBeyond before o
   along_failed some none before x is o w p = by rest some along.guided (along.covers o w p) none
     where
-      no_goer : (r : List ℕ) → ((u : ℕ) → least_past r ≤ u → Can u → ⊥) → GoesOn Here taken r o → ⊥
+      no_goer : (r : List ℕ) → ((u : ℕ) → least_past r ≤ u → Can u → ⊥) → OrderGoesOn Here taken r o → ⊥
       no_goer r none g =
           let s = choice.split g.behind g.here in
           none s.0 (past_least r s.0 s.1 (subst (IsPast r) s.2 g.past)) s.3
 
-      by : (r : List ℕ) → 1 ≤ least_past r → (r ≡ []) ⊎ (guide ≡ taken ++ r) → IsBeyond taken o ⊎ GoesOn Here taken r o → ((u : ℕ) → least_past r ≤ u → Can u → ⊥) → IsBeyond before o
+      by : (r : List ℕ) → 1 ≤ least_past r → (r ≡ []) ⊎ (guide ≡ taken ++ r) → IsBeyond taken o ⊎ OrderGoesOn Here taken r o → ((u : ℕ) → least_past r ≤ u → Can u → ⊥) → IsBeyond before o
       by [] some guided h none = absurd (omega (arith, some))
       by (y ∷ ys) some guided (inr g) none = absurd (no_goer (y ∷ ys) none g)
       by (y ∷ ys) some (inl e) (inl b) none = absurd (no_less [] y ys e)

@@ -4,7 +4,7 @@ use Rattle.std.specs.Prelude.{◌⊎◌, true, false, Option, Some, None}
 use Rattle.std.proofs.lemmas.List.{append-nil}
 use Rattle.application_types.specs.Generation.{Generated}
 use Rattle.kdcs_types.specs.Tables.{TableRows}
-use Rattle.application_check.specs.Fitted.{FittedUnits}
+use Rattle.application_types.specs.Fitted.{FittedUnits}
 use Rattle.abstract_monitor.specs.declared.command.Command.{Command}
 use Rattle.abstract_monitor.specs.Commands.{started}
 use Rattle.abstract_monitor.specs.Listing.{listing}

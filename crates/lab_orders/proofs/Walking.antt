@@ -20,8 +20,8 @@ use Rattle.laws_of_states.specs.TablesStayLaws.{started_tables}
 use Rattle.monitor_core.specs.Commanding.{Comes}
 use Rattle.monitor_core.specs.CoreSteps.{durable_of}
 use Rattle.monitor_core.specs.CoreValue.{CoreValue}
-use Rattle.script_run.specs.Keeping.{AreKept}
-use Rattle.script_run.specs.KeepingLaws.{acts_are_kept as kept_acts, durable_after as changed_tables}
+use Rattle.monitor_core.specs.Keeping.{AreKept}
+use Rattle.monitor_core.specs.KeepingLaws.{acts_are_kept as kept_acts, durable_after as changed_tables}
 use Rattle.service_ends.specs.declared.turned.Turned.{Turned as Did}
 use Rattle.service_ends.specs.Ending.{turned_to}
 use Rattle.lab_orders.specs.declared.choice.Choice.{Choice}

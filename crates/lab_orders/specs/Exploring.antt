@@ -54,7 +54,7 @@ pub record IsTally (app : Application) (t : TableRows) (commands : List Command)
   pub counted : orders_of outcomes ≡ orders
 
 -- of all orders, which are at most so many
-pub record IsWhole (app : Application) (t : TableRows) (commands : List Command) (most : ℕ) (e : Explored) : Type 0 where
+pub record IsOfAllOrders (app : Application) (t : TableRows) (commands : List Command) (most : ℕ) (e : Explored) : Type 0 where
   pub tally : IsTally app t commands e.orders e.outcomes
   pub each_order : AreAll app t commands e.outcomes
   pub all : e.all ≡ true

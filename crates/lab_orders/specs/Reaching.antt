@@ -9,7 +9,7 @@ use Rattle.lab_orders.specs.Beyond.{IsBeyond, IsPast}
 use Rattle.lab_orders.specs.Orders.{IsOrder, RunsSo, order_steps, turned_run, turned_script}
 
 -- an order that goes on with what was taken
-pub record GoesOn (Here : List ℕ → Type 0) (taken rest o : List ℕ) : Type 0 where
+pub record OrderGoesOn (Here : List ℕ → Type 0) (taken rest o : List ℕ) : Type 0 where
   pub behind : List ℕ
   pub is : o ≡ taken ++ behind
   pub here : Here behind
@@ -17,7 +17,7 @@ pub record GoesOn (Here : List ℕ → Type 0) (taken rest o : List ℕ) : Type 
 
 -- each whole order past the guide goes on with what was taken, or is beyond it
 pub record Along (Whole Here : List ℕ → Type 0) (guide taken rest : List ℕ) : Type 0 where
-  pub covers : (o : List ℕ) → Whole o → IsPast guide o → IsBeyond taken o ⊎ GoesOn Here taken rest o
+  pub covers : (o : List ℕ) → Whole o → IsPast guide o → IsBeyond taken o ⊎ OrderGoesOn Here taken rest o
   pub guided : (rest ≡ []) ⊎ (guide ≡ taken ++ rest)
 
 -- the steps so far lead to this state and sent these bytes, and all steps are these and those behind

@@ -1,14 +1,14 @@
 //! All orders of a script, and the distinct outcomes.
 ghost use Rattle.std.specs.Prelude.{◌≡◌, ◌⊎◌, ◌↔◌, ◌+◌, ◌<◌, ◌≤◌, ◌^◌, true, false, All, IsTrue, IfOk, IfSome, MatchOption, OnOk, sum_by};
 ghost use Rattle.laws_of_runs.specs.Applied.{applied};
-ghost use Rattle.lab_orders.specs.{Exploring.{AreAll, AreDistinct, AreOutcomes, IsAdded, IsDrawn, IsThatOf, IsThere, IsWhole}, Finding.{CanStart}};
+ghost use Rattle.lab_orders.specs.{Exploring.{AreAll, AreDistinct, AreOutcomes, IsAdded, IsDrawn, IsThatOf, IsThere, IsOfAllOrders}, Finding.{CanStart}};
 
 use crate::draw::drawn_order;
 use crate::path::{Signs, Turns};
 use crate::search::{Found, order_after, order_past};
 use abstract_monitor::Command;
-use application_check::kdcdef_check::Generation;
-use application_check::unit_check::Units;
+use application_types::generation::Generation;
+use application_types::units::Units;
 use kd_base::{Bytes, OutOfMemory, Sequence};
 use kdcs_types::Tables;
 use rand_core::SeedableRng;
@@ -165,7 +165,7 @@ fn all_orders(
 ) -> Result<Tried, OutOfMemory>
     requires { CanStart (applied generation units) tables.now commands.now generation units }
     ensures again { IfOk result (λ n. CanStart (applied generation units) tables.now commands.now n.0 n.1) }
-    ensures whole { IfOk result (λ n. IfSome n.2 (λ e. IsWhole (applied generation units) tables.now commands.now most e)) }
+    ensures whole { IfOk result (λ n. IfSome n.2 (λ e. IsOfAllOrders (applied generation units) tables.now commands.now most e)) }
 {
     let mut outcomes = Vec::new(alloc);
     let (mut generation, mut units, mut next) = order_past(

@@ -1,13 +1,13 @@
 //! What is kept of an order as it is followed.
 ghost use Rattle.std.specs.Prelude.{◌≡◌, ◌++◌, ◌∷◌, [], OnOk};
 ghost use Rattle.abstract_monitor.specs.Trace.{bytes_of, tables_after};
-ghost use Rattle.script_run.specs.Keeping.{AreKept};
+ghost use Rattle.monitor_core.specs.Keeping.{AreKept};
 
 use crate::choice::Choice;
 use kd_base::{Bytes, OutOfMemory, Sequence};
 use kdcs_types::{Act, Acts, Code, Ending, Note, Settled, Tables};
 use monitor_core::Core;
-use script_run::keep_commits;
+use monitor_core::script_run::keep_commits;
 use std::alloc::Global;
 
 /// The turns of all RUNs of a script, one after another, each the number of its task. 0 ends a RUN before its last turn,

@@ -1,15 +1,15 @@
 //! The start of a monitor, again for each order.
 ghost use Rattle.std.specs.Prelude.{◌≡◌, IfOk};
 ghost use Rattle.laws_of_states.specs.Suits.{Suits};
-ghost use Rattle.application_check.specs.Fitted.{IsFit};
+ghost use Rattle.application_types.specs.Fitted.{IsFit};
 ghost use Rattle.laws_of_runs.specs.Applied.{applied};
 ghost use Rattle.abstract_monitor.specs.Commands.{started};
 ghost use Rattle.laws_of_states.specs.Keeping.{HasFacts};
 ghost use Rattle.lab_orders.specs.Walking.{Begun};
 
 use crate::path::Path;
-use application_check::kdcdef_check::Generation;
-use application_check::unit_check::Units;
+use application_types::generation::Generation;
+use application_types::units::Units;
 use kd_base::OutOfMemory;
 use kdcs_types::Tables;
 use monitor_core::Core;

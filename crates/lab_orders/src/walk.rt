@@ -3,7 +3,7 @@ ghost use Rattle.std.specs.{Prelude.{◌≡◌, ◌+◌, ◌≤◌, ◌<◌, ◌
 ghost use Rattle.application_types.specs.Statements.{IsWithin};
 ghost use Rattle.abstract_monitor.specs.{CommandsOf.{IsCommandOf}, declared.command.Command.TheVariants.{Restart, Turn}};
 ghost use Rattle.laws_of_states.specs.Keeping.{IsScriptOf};
-ghost use Rattle.monitor_core.specs.Commanding.{IsSingle};
+ghost use Rattle.monitor_core.specs.Commanding.{IsCoreCommand};
 ghost use Rattle.lab_orders.specs.Walking.{DidCommand, DidRun, IsBeside, IsNoRun, Walked, WentOn, tries_of};
 
 use crate::choice::choose;
@@ -20,14 +20,14 @@ use std::alloc::Global;
 const RESTARTED: &[u8] = b"RESTART\n";
 
 // A command that is no RUN, TURN or RESTART.
-fn do_single(
+fn do_core_command(
     alloc: Global,
     core: Core,
     path: &mut Path,
     command: &Command,
 ) -> Result<Core, OutOfMemory>
     requires beside { IsBeside core path.old }
-    requires single { IsSingle command.now }
+    requires core_command { IsCoreCommand command.now }
     requires names { IsCommandOf core.application.generation command.now }
     requires steps { core.steps < 10 ^ 18 }
     ensures done { IfOk result (λ next. DidCommand core path.old command.now next path.new) }
@@ -89,7 +89,7 @@ pub(crate) fn do_command(
         | Command::Tick(_)
         | Command::Drop(_)
         | Command::Print(_)
-        | Command::PrintLast(_) => do_single(alloc, core, path, command),
+        | Command::PrintLast(_) => do_core_command(alloc, core, path, command),
     }
 }
 

@@ -20,12 +20,12 @@ pub record DidSteps (c : CoreValue) (steps : List ScriptStep) (d : CoreValue) : 
   pub state : d.state ≡ state_after c.state steps
 
 -- the monitor came to the state after some steps, and all of them were heard of
-pub record Told {L : Type 0} (hears : L → List Heard → L → Type 0) (c : CoreValue) (steps : List ScriptStep) (before after : L) (d : CoreValue) : Type 0 where
+pub record ToldSteps {L : Type 0} (hears : L → List Heard → L → Type 0) (c : CoreValue) (steps : List ScriptStep) (before after : L) (d : CoreValue) : Type 0 where
   pub did : DidSteps c steps d
   pub heard : hears before (heard_in steps) after
 
 -- and the tables beside it are its durable ones; what is borrowed is the same
 pub record Watched {L : Type 0} (hears : L → List Heard → L → Type 0) (c : CoreValue) (steps : List ScriptStep) (before after : L) (d : CoreValue) (t : TableRows) (place place' : List ℕ) : Type 0 where
-  pub told : Told hears c steps before after d
+  pub told : ToldSteps hears c steps before after d
   pub beside : IsBeside d t
   pub same_place : place' ≡ place

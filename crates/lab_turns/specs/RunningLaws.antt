@@ -12,12 +12,12 @@ use Rattle.laws_of_states.specs.Applications.{IsApplication}
 use Rattle.laws_of_states.specs.Keeping.{HasFacts}
 use Rattle.monitor_core.specs.CoreSteps.{durable_of}
 use Rattle.monitor_core.specs.CoreValue.{CoreValue}
-use Rattle.script_run.specs.Sinks.{GoesOn}
+use Rattle.monitor_core.specs.Sinks.{SinkGoesOn}
 use Rattle.lab_turns.specs.Heard.{Heard, heard_of, heard_in}
-use Rattle.lab_turns.specs.Running.{IsBeside, Told, Watched}
+use Rattle.lab_turns.specs.Running.{IsBeside, ToldSteps, Watched}
 
 module _ {L : Type 0} (hears : L → List Heard → L → Type 0) (none : (l : L) → hears l [] l) (both : (a b c : L) (xs ys : List Heard) → hears a xs b → hears b ys c → hears a (xs ++ ys) c) where
-  told_more : (c d e : CoreValue) (a b l : L) (xs ys all : List ScriptStep) → Told hears c xs a b d → Told hears d ys b l e → all ≡ xs ++ ys → Told hears c all a l e
+  told_more : (c d e : CoreValue) (a b l : L) (xs ys all : List ScriptStep) → ToldSteps hears c xs a b d → ToldSteps hears d ys b l e → all ≡ xs ++ ys → ToldSteps hears c all a l e
   told_more c d e a b l xs ys all first next is = record {
     did = record {
       application = next.did.application ∙ first.did.application;
@@ -27,10 +27,10 @@ module _ {L : Type 0} (hears : L → List Heard → L → Type 0) (none : (l : L
   }
 
   -- it heard of no step
-  pub told_nothing : (c : CoreValue) (a b : L) → hears a [] b → Told hears c [] a b c
+  pub told_nothing : (c : CoreValue) (a b : L) → hears a [] b → ToldSteps hears c [] a b c
   told_nothing c a b heard = record { did = record { application = refl; state = sym (after_none c.state) }; heard = heard }
 
-  pub told_goes : {E : Type 0} → GoesOn {E = E} (λ l c. Unit {0}) (λ _. Unit {0}) (λ a c steps b d. Told hears c steps a b d) (λ _ _ _ _ _. Unit {0})
+  pub told_goes : {E : Type 0} → SinkGoesOn {E = E} (λ l c. Unit {0}) (λ _. Unit {0}) (λ a c steps b d. ToldSteps hears c steps a b d) (λ _ _ _ _ _. Unit {0})
   told_goes = record {
     none = λ a c ready. told_nothing c a a (none a);
     application = λ a b c d xs told. told.did.application;
@@ -41,7 +41,7 @@ module _ {L : Type 0} (hears : L → List Heard → L → Type 0) (none : (l : L
   }
 
   -- with the durable tables beside the monitor
-  pub watch_goes : {S E : Type 0} (durable : S → TableRows) (listener : S → L) (place : S → List ℕ) → GoesOn {E = E} (λ w c. IsBeside c (durable w)) (λ _. Unit {0}) (λ v c steps w d. Watched hears c steps (listener v) (listener w) d (durable w) (place v) (place w)) (λ _ _ _ _ _. Unit {0})
+  pub watch_goes : {S E : Type 0} (durable : S → TableRows) (listener : S → L) (place : S → List ℕ) → SinkGoesOn {E = E} (λ w c. IsBeside c (durable w)) (λ _. Unit {0}) (λ v c steps w d. Watched hears c steps (listener v) (listener w) d (durable w) (place v) (place w)) (λ _ _ _ _ _. Unit {0})
   watch_goes durable listener place = record {
     none = λ w c ready. record { told = told_nothing c (listener w) (listener w) (none (listener w)); beside = ready; same_place = refl };
     application = λ v w c d xs took. took.told.did.application;

@@ -1,6 +1,6 @@
 //! A monitor that performs commands, with its durable tables beside it.
 ghost use Rattle.std.specs.Prelude.{◌≡◌, ◌≤◌, ◌+◌, ◌^◌, ◌↔◌, IfOk, IsTrue, OnOk};
-ghost use Rattle.application_check.specs.Fitted.{IsFit};
+ghost use Rattle.application_types.specs.Fitted.{IsFit};
 ghost use Rattle.laws_of_runs.specs.Applied.{applied};
 ghost use Rattle.laws_of_states.specs.{Keeping.{HasFacts, IsScriptOf}, Suits.{Suits}};
 ghost use Rattle.abstract_monitor.specs.{CommandsOf.{IsCommandOf}, Commands.{started, steps_of}, Trace.{history}};
@@ -11,8 +11,8 @@ use crate::error::LabError;
 use crate::listener::Listener;
 use crate::watching::watch_command;
 use abstract_monitor::Command;
-use application_check::kdcdef_check::Generation;
-use application_check::unit_check::Units;
+use application_types::generation::Generation;
+use application_types::units::Units;
 use kd_base::OutOfMemory;
 use kdcs_types::Tables;
 use monitor_core::Core;

@@ -5,7 +5,7 @@ ghost use Rattle.kdcs_types.specs.declared.act.Act.TheVariants.{Emit};
 ghost use Rattle.abstract_monitor.specs.{CommandsOf.{IsCommandOf}, Commands.{steps_of}, Lines.{restart_line}};
 ghost use Rattle.laws_of_states.specs.Keeping.{HasFacts};
 ghost use Rattle.monitor_core.specs.CoreSteps.{turns_of};
-ghost use Rattle.lab_turns.specs.{Running.{IsBeside, Told, Watched}, RunningLaws.{watch_goes}};
+ghost use Rattle.lab_turns.specs.{Running.{IsBeside, ToldSteps, Watched}, RunningLaws.{watch_goes}};
 
 use crate::error::LabError;
 use crate::listener::{Listener, RunEnd};
@@ -13,8 +13,8 @@ use crate::view::Before;
 use abstract_monitor::Command;
 use kd_base::{Bytes, OutOfMemory};
 use kdcs_types::{Act, Acts, Tables};
+use monitor_core::script_run::{Sink, apply_beside, do_command, start_beside, turn_beside};
 use monitor_core::{Core, Turned};
-use script_run::{Sink, apply_beside, do_command, start_beside, turn_beside};
 use std::alloc::Global;
 
 /// The durable tables beside a core, and who hears of its steps.
@@ -116,7 +116,7 @@ pub(crate) fn watch_command<L: Listener>(
     requires beside { IsBeside core durable.old }
     requires names { IsCommandOf core.application.generation command.now }
     requires steps { core.steps + turns_of command.now ≤ 10 ^ 18 }
-    ensures told { IfOk result (λ next. Told L.hears core (steps_of core.application core.state command.now) listener.old listener.new next) }
+    ensures told { IfOk result (λ next. ToldSteps L.hears core (steps_of core.application core.state command.now) listener.old listener.new next) }
     ensures beside { IfOk result (λ next. IsBeside next durable.new) }
 {
     let mut watch = Watch { durable, listener };

@@ -5,7 +5,7 @@ use crate::messages::variant_word;
 use crate::roles::Role;
 use crate::warned::Warnings;
 use crate::warning::Warning;
-use application_check::kdcdef_check::Generation;
+use application_types::generation::Generation;
 use application_types::kdcdef_types::{CallUse, TacEntry};
 use application_types::unit_types::{Action, Operand};
 use kd_base::{Name, OutOfMemory, Variant};

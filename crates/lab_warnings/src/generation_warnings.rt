@@ -3,10 +3,10 @@
 use crate::flow::Walk;
 use crate::warned::Warnings;
 use crate::warning::Warning;
-use application_check::kdcdef_check::Generation;
-use application_check::unit_check::Units;
+use application_types::generation::Generation;
 use application_types::kdcdef_types::{KeySet, Said, Statement, TacEntry};
 use application_types::unit_types::Unit;
+use application_types::units::Units;
 use kd_base::{Name, OutOfMemory, ProgName};
 use lab_check::lab_findings::TextName;
 use std::alloc::Global;

@@ -5,7 +5,7 @@ use crate::flow::{Coming, Fact, Walk};
 use crate::messages::variant_word;
 use crate::warned::Warnings;
 use crate::warning::Warning;
-use application_check::kdcdef_check::Generation;
+use application_types::generation::Generation;
 use application_types::unit_types::{Action, Unit};
 use kd_base::{OutOfMemory, Variant};
 use lab_check::lab_findings::TextName;

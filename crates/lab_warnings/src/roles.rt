@@ -1,9 +1,9 @@
 //! In which services a unit runs.
 
 use crate::areas::fixed;
-use application_check::kdcdef_check::Generation;
-use application_check::unit_check::Units;
+use application_types::generation::Generation;
 use application_types::unit_types::{Action, Unit};
+use application_types::units::Units;
 use kd_base::{Name, OutOfMemory, Variant};
 use std::alloc::Global;
 use std::collections::BTreeSet;

@@ -1,7 +1,7 @@
 //! What statements name: fields, labels, targets, blocks and messages.
 
 use crate::areas::stored;
-use application_check::kdcdef_check::Generation;
+use application_types::generation::Generation;
 use application_types::kdcdef_types::{CallUse, Said, Statement};
 use application_types::unit_types::{Action, Operand};
 use kd_base::{Bytes, Name, OutOfMemory, trim_end};

@@ -3,7 +3,7 @@ use Rattle.std.specs.Prelude.{◌≡◌, refl, ℕ, List, Option, Some, None, op
 use Rattle.std.proofs.Common.{ap, ◌∙◌}
 use Rattle.application_types.specs.declared.kdcdef_types.entry.TacEntry.{TacEntry}
 use Rattle.application_types.specs.Generation.{Generated, entry_of, tac_of}
-use Rattle.application_check.specs.Fitted.{FittedUnits, IsFit, unit_named, unit_of as fitted_unit}
+use Rattle.application_types.specs.Fitted.{FittedUnits, IsFit, unit_named, unit_of as fitted_unit}
 use Rattle.abstract_monitor.specs.State.{Application, unit_by, unit_of}
 use Rattle.laws_of_runs.specs.Applied.{applied}
 

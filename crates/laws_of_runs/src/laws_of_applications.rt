@@ -1,15 +1,15 @@
 //! A generation with units that were fitted to it is an application.
 //!
-//! It stands on the check of generations, on the fit of units and on the definitions of the monitor with their laws, and
-//! joins them: what the laws ask of an application, every checked generation with its fitted units has. The function does
-//! nothing; its contract is the law. So a monitor over them may cite all laws on applications.
+//! It stands on what every generation and all fitted units keep, and on the definitions of the monitor with their laws,
+//! and joins them: what the laws ask of an application, every checked generation with its fitted units has. The
+//! function does nothing; its contract is the law. So a monitor over them may cite all laws on applications.
 
-ghost use Rattle.application_check.specs.Fitted.{IsFit};
+ghost use Rattle.application_types.specs.Fitted.{IsFit};
 ghost use Rattle.laws_of_states.specs.Applications.{IsApplication};
 ghost use Rattle.laws_of_runs.specs.Applied.{applied};
 
-use application_check::kdcdef_check::Generation;
-use application_check::unit_check::Units;
+use application_types::generation::Generation;
+use application_types::units::Units;
 
 /// A generation and units that were fitted to it are an application as the laws of the monitor want it: its numbers and
 /// names lie in their ranges, each terminal has its LTERM, and each TAC has a unit that was fitted.

@@ -25,7 +25,7 @@ use Rattle.abstract_monitor.specs.Picks.{is_free}
 use Rattle.abstract_monitor.specs.Sessions.{is_running}
 use Rattle.abstract_monitor.specs.State.{Application, OpenTransaction, State}
 use Rattle.laws_of_states.specs.Facts.{IsConsistent, IsSoundState}
-use Rattle.laws_of_states.specs.PointLaws.{Stands}
+use Rattle.laws_of_states.specs.PointLaws.{IsSoundlyOpen}
 
 -- ---- any tables
 
@@ -72,7 +72,7 @@ pub record PointMade (g : Generated) (t : TableRows) (id : ServiceId) (x : OpenT
   pub alone : is_durable g id ≡ true → changed t (durable_difference g t (synchronised g t id x o)) ≡ synchronised g t id x o
 
 abbrev pub PointsMakeTables : Type 0
-PointsMakeTables = (g : Generated) (t : TableRows) (id : ServiceId) (x : OpenTransaction) (o : Outcome) → Stands g t id x → PointMade g t id x o
+PointsMakeTables = (g : Generated) (t : TableRows) (id : ServiceId) (x : OpenTransaction) (o : Outcome) → IsSoundlyOpen g t id x → PointMade g t id x o
 
 -- the same after an abnormal end, without the service's row
 pub record EndMade (g : Generated) (t : TableRows) (id : ServiceId) (x : OpenTransaction) : Type 0 where

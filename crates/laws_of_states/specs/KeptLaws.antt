@@ -74,12 +74,12 @@ abbrev pub IsNoPend : Call → Type 0
 IsNoPend (Pend variant op) = ⊥
 IsNoPend _ = Unit {0}
 
-pub record IsKept (v : Told) (of : Option Area) (x : OpenTransaction) (p : Performed) : Type 0 where
+pub record HoldsOnlyGranted (v : Told) (of : Option Area) (x : OpenTransaction) (p : Performed) : Type 0 where
   pub touched : HoldsNoMore v of x p.0
   pub began : p.0.began ≡ x.began
   pub pends_not : PendsNot p.1
 
-quiet_kept : (v : Told) (of : Option Area) (x : OpenTransaction) (p : Performed) → IsQuiet x p → IsKept v of x p
+quiet_kept : (v : Told) (of : Option Area) (x : OpenTransaction) (p : Performed) → IsQuiet x p → HoldsOnlyGranted v of x p
 quiet_kept v of x p q = record {
   touched = λ area h. inl (subst (λ l. IsTrue (has_area area l)) q.touched h);
   began = q.began;
@@ -152,14 +152,14 @@ touching_kept v x area false e q a h = ⊎_elim (λ was. inl was) (λ (same : ar
     some_area : Area → Option Area
     some_area k = Some k
 
-locked_kept : (v : Told) (x : OpenTransaction) (area : Area) (go : OpenTransaction → Performed) → ((y : OpenTransaction) → IsQuiet y (go y)) → IsKept v (Some area) x (locked v x area go)
+locked_kept : (v : Told) (x : OpenTransaction) (area : Area) (go : OpenTransaction → Performed) → ((y : OpenTransaction) → IsQuiet y (go y)) → HoldsOnlyGranted v (Some area) x (locked v x area go)
 locked_kept v x area go quiet = by (answer_by v (touches x area)) refl
   where
     granted : (b : Bool) → touches x area ≡ b → answer_by v (touches x area) ≡ Granted → touches x area ≡ false → v.answer ≡ Granted
     granted true e q f = absurd (true≢false (sym e ∙ f))
     granted false e q f = ap (answer_by v) (sym e) ∙ q
 
-    by : (a : LockAnswer) → answer_by v (touches x area) ≡ a → IsKept v (Some area) x (on_answer x area a go)
+    by : (a : LockAnswer) → answer_by v (touches x area) ≡ a → HoldsOnlyGranted v (Some area) x (on_answer x area a go)
     by Granted q =
         let y = touching x area (touches x area) in
         let g = quiet y in
@@ -192,27 +192,27 @@ without_touched area a (b ∷ l) h = by (not (area_eq b area)) (area_eq b a) h (
         later true t = refl
         later false t = t
 
-unlocked_kept : (v : Told) (of : Option Area) (x : OpenTransaction) (area : Area) (held written : Bool) → IsKept v of x (unlocked_by v x area held written)
+unlocked_kept : (v : Told) (of : Option Area) (x : OpenTransaction) (area : Area) (held written : Bool) → HoldsOnlyGranted v of x (unlocked_by v x area held written)
 unlocked_kept v of x area false written = record { touched = λ a h. inl h; began = refl; pends_not = tt }
 unlocked_kept v of x area true true = record { touched = λ a h. inl h; began = refl; pends_not = tt }
 unlocked_kept v of x area true false = record { touched = λ a h. inl (without_touched area a x.touched h); began = refl; pends_not = tt }
 
 -- ---- calls that ask of an area
 
-declared_kept : (v : Told) (of : Option Area) (x : OpenTransaction) (b : Bool) (p : Performed) → IsKept v of x p → IsKept v of x (declared x b p)
+declared_kept : (v : Told) (of : Option Area) (x : OpenTransaction) (b : Bool) (p : Performed) → HoldsOnlyGranted v of x p → HoldsOnlyGranted v of x (declared x b p)
 declared_kept v of x true p h = h
 declared_kept v of x false p h = record { touched = λ a k. inl k; began = refl; pends_not = tt }
 
-named_kept : (v : Told) (area : Bytes → Area) (x : OpenTransaction) (n : Option Bytes) (go : Bytes → Performed) → ((m : Bytes) → IsKept v (Some (area m)) x (go m)) → IsKept v (option_map area n) x (with_name x n go)
+named_kept : (v : Told) (area : Bytes → Area) (x : OpenTransaction) (n : Option Bytes) (go : Bytes → Performed) → ((m : Bytes) → HoldsOnlyGranted v (Some (area m)) x (go m)) → HoldsOnlyGranted v (option_map area n) x (with_name x n go)
 named_kept v area x None go all = record { touched = λ a h. inl h; began = refl; pends_not = tt }
 named_kept v area x (Some m) go all = all m
 
 -- a block that the generation declares
-block_kept : (v : Told) (area : Bytes → Area) (x : OpenTransaction) (name : Bytes) (has : Bytes → Bool) (go : Bytes → Performed) → ((n : Bytes) → IsKept v (Some (area n)) x (go n)) → IsKept v (option_map area (name_in_operand name)) x (with_name x (name_in_operand name) (λ n. declared x (has n) (go n)))
+block_kept : (v : Told) (area : Bytes → Area) (x : OpenTransaction) (name : Bytes) (has : Bytes → Bool) (go : Bytes → Performed) → ((n : Bytes) → HoldsOnlyGranted v (Some (area n)) x (go n)) → HoldsOnlyGranted v (option_map area (name_in_operand name)) x (with_name x (name_in_operand name) (λ n. declared x (has n) (go n)))
 block_kept v area x name has go all = named_kept v area x (name_in_operand name) _ (λ n. declared_kept v (Some (area n)) x (has n) (go n) (all n))
 
 -- any call but PEND
-pub called_kept : (g : Generated) (v : Told) (asy : Bool) (x : OpenTransaction) (call : Call) → IsNoPend call → IsKept v (area_of_call x call) x (called g v asy x call)
+pub called_kept : (g : Generated) (v : Told) (asy : Bool) (x : OpenTransaction) (call : Call) → IsNoPend call → HoldsOnlyGranted v (area_of_call x call) x (called g v asy x call)
 unfolding called
 called_kept g v asy x Init other = record { touched = λ a h. inl h; began = refl; pends_not = tt }
 called_kept g v asy x (Mget capacity) other = quiet_kept v None x _ (kind_quiet x (not asy) _ (got_quiet x capacity x.unread))
@@ -236,7 +236,7 @@ called_kept g v asy x (UnlkUs name) other = block_kept v (λ n. Uls n x.user) x 
 called_kept g v asy x (UnlkDa name) other = block_kept v (λ n. Tls n x.lterm) x name (has_tls g) _ (λ n. unlocked_kept v (Some (Tls n x.lterm)) x (Tls n x.lterm) _ _)
 called_kept g v asy x (Pend variant op) other = absurd other
 
-first_kept : (v : Told) (of : Option Area) (x : OpenTransaction) (call : Call) → IsKept v of x (first_call x call)
+first_kept : (v : Told) (of : Option Area) (x : OpenTransaction) (call : Call) → HoldsOnlyGranted v of x (first_call x call)
 first_kept v of x Init = record { touched = λ a h. inl h; began = refl; pends_not = tt }
 first_kept v of x _ = record { touched = λ a h. inl h; began = refl; pends_not = tt }
 
@@ -262,7 +262,7 @@ pended_keeps app asy unit v of x variant (Ok o) = outcome_keeps app asy v of x v
 pended_keeps app asy unit v of x variant (Err cause) = unchanged v of x _
 
 -- where no PEND goes through
-performed_keeps : (app : Application) (asy : Bool) (unit : UnitText) (v : Told) (of : Option Area) (x y : OpenTransaction) (c : Called) → IsKept v of x (y, c) → StatementKeeps v of x (by_call app asy unit y c)
+performed_keeps : (app : Application) (asy : Bool) (unit : UnitText) (v : Told) (of : Option Area) (x y : OpenTransaction) (c : Called) → HoldsOnlyGranted v of x (y, c) → StatementKeeps v of x (by_call app asy unit y c)
 performed_keeps app asy unit v of x y (Pends variant o) k = absurd k.pends_not
 performed_keeps app asy unit v of x y _ k = record { touched = k.touched; began = k.began }
 

@@ -58,3 +58,7 @@ pub mod Transactions
 pub mod TurnedLaws
 pub mod UpdatesLaws
 pub mod UsesLaws
+pub mod SampleUnits
+pub mod Sample
+pub mod SampleWords
+pub mod SampleRows

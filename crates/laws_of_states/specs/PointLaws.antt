@@ -24,7 +24,7 @@ pub record AreSound (g : Generated) (t : TableRows) : Type 0 where
   pub rows : IsTrue (list_all (service_suits g) t.services)
 
 -- a transaction that can go on, at an outcome that has its follow-up
-pub record Stands (g : Generated) (t : TableRows) (id : ServiceId) (x : OpenTransaction) : Type 0 where
+pub record IsSoundlyOpen (g : Generated) (t : TableRows) (id : ServiceId) (x : OpenTransaction) : Type 0 where
   pub sound : AreSound g t
   pub can : CanGoOn g id x
   pub rooted : IsRooted t id x
@@ -32,7 +32,7 @@ pub record Stands (g : Generated) (t : TableRows) (id : ServiceId) (x : OpenTran
 -- a synchronisation point that is not refused
 abbrev pub PointsStaySound : Type 0
 PointsStaySound =
-    (g : Generated) (t : TableRows) (id : ServiceId) (x : OpenTransaction) (o : Outcome) → Stands g t id x → OutcomeFits g (is_asynchronous id) o
+    (g : Generated) (t : TableRows) (id : ServiceId) (x : OpenTransaction) (o : Outcome) → IsSoundlyOpen g t id x → OutcomeFits g (is_asynchronous id) o
     → refusal g (durable g (synchronised g t id x o)) ≡ None → AreSound g (synchronised g t id x o)
 
 -- the pages of the durable tables are no more

@@ -42,7 +42,7 @@ use Rattle.laws_of_states.specs.Suits.{fits_message, gssb_suits, tls_suits, uls_
 use Rattle.laws_of_states.specs.Suits.{target_name, job_suits, number_is_below}
 use Rattle.laws_of_states.specs.Transactions.{HasOwnJob, IsRooted, written_fits, last_moment, due_fits, draft_fits, IsOwner, CanGoOn}
 use Rattle.laws_of_states.specs.OpenLaws.{OutcomeFits}
-use Rattle.laws_of_states.specs.PointLaws.{Stands, PointsStaySound}
+use Rattle.laws_of_states.specs.PointLaws.{IsSoundlyOpen, PointsStaySound}
 use Rattle.laws_of_states.specs.ItemsLaws.{ascends_append, ascends_behind}
 use Rattle.laws_of_states.specs.ListsLaws.{bytes_eq_itself, all_imply, all_both, filter_passes, all_append}
 use Rattle.laws_of_states.specs.OpeningsLaws.{job_whole}
@@ -417,7 +417,7 @@ points_stay_sound g t id x o stands fits h =
     sound g (synchronised g t id x o) (point_good g t id x o (good g t stands.sound) stands.can stands.rooted fits) (not_refused g (durable g (synchronised g t id x o)) h)
 
 -- the row after a point suits
-pub next_row : (g : Generated) (t : TableRows) (id : ServiceId) (x : OpenTransaction) (o : Outcome) → Stands g t id x → OutcomeFits g (is_asynchronous id) o → (row : Service) → row_after g id x o ≡ Some row → IsTrue (service_suits g row) × (row.id ≡ id)
+pub next_row : (g : Generated) (t : TableRows) (id : ServiceId) (x : OpenTransaction) (o : Outcome) → IsSoundlyOpen g t id x → OutcomeFits g (is_asynchronous id) o → (row : Service) → row_after g id x o ≡ Some row → IsTrue (service_suits g row) × (row.id ≡ id)
 next_row g t id x o stands fits row e =
     let row_fits : RowFits g id row =
     subst (λ (r : Option Service). IfSome r (λ (s : Service). RowFits g id s)) e (row_after_suits g id x o stands.can (began_suits g t id x.began (good g t stands.sound) stands.rooted.began) fits) in

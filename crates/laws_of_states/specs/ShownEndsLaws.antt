@@ -27,7 +27,7 @@ use Rattle.laws_of_states.specs.JobLaw.{jobs_left, new_jobs}
 use Rattle.laws_of_states.specs.JobLaws.{points_number, service_jobs}
 use Rattle.laws_of_states.specs.OwnRowLaws.{broken_own, ends_remove, points_set, synchronised_own}
 use Rattle.laws_of_states.specs.ItemsLaws.{ascends_append, ascends_behind}
-use Rattle.laws_of_states.specs.PointLaws.{Stands}
+use Rattle.laws_of_states.specs.PointLaws.{IsSoundlyOpen}
 use Rattle.laws_of_states.specs.CommitLaws.{durable_difference, KeepsVolatile, KeepsOtherVolatile, PointsMakeTables, EndsMakeTables}
 use Rattle.laws_of_states.specs.MakingLaws.{are_changes, makes, makes_with_row}
 use Rattle.laws_of_states.specs.PointsLaws.{point_row_fits}
@@ -98,7 +98,7 @@ with_jobs u jobs next h up = record { gssbs = h.gssbs; tlss = h.tlss; ulss = h.u
 
 -- ---- synchronisation points
 
-module _ (g : Generated) (t : TableRows) (id : ServiceId) (x : OpenTransaction) (o : Outcome) (s : Stands g t id x) where
+module _ (g : Generated) (t : TableRows) (id : ServiceId) (x : OpenTransaction) (o : Outcome) (s : IsSoundlyOpen g t id x) where
   low : IsTrue (list_all (λ (j : Job). nat_lt j.number t.next_job) t.jobs)
   unfolding durable
   low = s.sound.suits.job_numbers

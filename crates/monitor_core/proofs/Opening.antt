@@ -10,7 +10,7 @@ use Rattle.application_types.specs.Generation.{Generated}
 use Rattle.monitor_parts.specs.Asked.{no_locks}
 use Rattle.open_transaction.specs.MarksLaws.{untaken_of}
 use Rattle.open_transaction.specs.Queue.{untaken}
-use Rattle.step_scheduler.specs.Schedule.{all_free, service_in}
+use Rattle.service_ends.specs.Schedule.{all_free, service_in}
 use Rattle.abstract_monitor.specs.Charges.{total_charge}
 use Rattle.abstract_monitor.specs.Commands.{asynchronous_rows, started}
 use Rattle.abstract_monitor.specs.Endings.{durable}

@@ -20,8 +20,8 @@ use Rattle.abstract_monitor.specs.Turns.{without_open}
 use Rattle.laws_of_states.specs.EndsLaws.{sign_offs_stay_sound}
 use Rattle.laws_of_states.specs.PointLaws.{AreSound}
 use Rattle.table_fit.specs.Pages.{FitPool}
-use Rattle.step_scheduler.specs.Schedule as schedule
-use Rattle.step_scheduler.specs.Schedule.{holds, service_in}
+use Rattle.service_ends.specs.Schedule as schedule
+use Rattle.service_ends.specs.Schedule.{holds, service_in}
 use Rattle.service_ends.specs.declared.core_state.parts.MonitorParts.{MonitorParts}
 use Rattle.service_ends.specs.KeptLaws.{found_open}
 use Rattle.service_ends.specs.Whole.{app_of}

@@ -3,7 +3,7 @@ use Rattle.std.specs.Prelude.{◌≡◌}
 use Rattle.std.proofs.Common.{sym, subst}
 use Rattle.application_types.specs.Generation.{Generated}
 use Rattle.kdcs_types.specs.Tables.{TableRows, IsSortedTables}
-use Rattle.application_check.specs.Fitted.{FittedUnits, IsFit}
+use Rattle.application_types.specs.Fitted.{FittedUnits, IsFit}
 use Rattle.laws_of_runs.specs.Applied.{applied}
 use Rattle.abstract_monitor.specs.Commands.{started}
 use Rattle.laws_of_states.specs.Applications.{IsApplication}

@@ -18,7 +18,7 @@ use Rattle.kd_base.specs.MappedLaws.{put_mapped}
 use Rattle.monitor_parts.specs.Asked.{is_holder, other_than}
 use Rattle.open_transaction.specs.Marks.{queue_of}
 use Rattle.kdcs_calls.specs.Calling.{HoldersMatch, HoldsJust}
-use Rattle.step_scheduler.specs.Schedule.{service_in}
+use Rattle.service_ends.specs.Schedule.{service_in}
 use Rattle.open_transaction.specs.Transactions.{Boxed, boxed_transaction}
 use Rattle.abstract_monitor.specs.declared.answer.Happened.{Happened}
 use Rattle.abstract_monitor.specs.declared.answer.Happened.TheVariants.{Held, Settles}

@@ -54,15 +54,15 @@ abbrev pub queued_with : Application → State → (user : Bytes) → OpenTransa
 queued_with app s user x text = queued s (Dialogue user) (followed_by_input app.generation x (held_tac app x) text)
 
 -- the commands of one step that are no turn and no restart
-abbrev pub IsSingle : Command → Type 0
-IsSingle (Input pterm text) = Unit {0}
-IsSingle (Tick ticks) = Unit {0}
-IsSingle (Run turns) = ⊥
-IsSingle (Turn task) = ⊥
-IsSingle (Drop pterm) = Unit {0}
-IsSingle (Print pterm) = Unit {0}
-IsSingle (PrintLast pterm) = Unit {0}
-IsSingle Restart = ⊥
+abbrev pub IsCoreCommand : Command → Type 0
+IsCoreCommand (Input pterm text) = Unit {0}
+IsCoreCommand (Tick ticks) = Unit {0}
+IsCoreCommand (Run turns) = ⊥
+IsCoreCommand (Turn task) = ⊥
+IsCoreCommand (Drop pterm) = Unit {0}
+IsCoreCommand (Print pterm) = Unit {0}
+IsCoreCommand (PrintLast pterm) = Unit {0}
+IsCoreCommand Restart = ⊥
 
 -- PRINT, or PRINT LAST
 abbrev pub printed : (again : Bool) → (pterm : Bytes) → Command

@@ -7,20 +7,20 @@ use Rattle.abstract_monitor.specs.declared.command.Command.{Command}
 use Rattle.abstract_monitor.specs.declared.command.Command.TheVariants.{Input, Tick, Run, Turn, Drop, Print, PrintLast, Restart}
 use Rattle.abstract_monitor.specs.Commands.{command_of, steps_of}
 use Rattle.abstract_monitor.specs.State.{Application, State}
-use Rattle.monitor_core.specs.Commanding.{IsSingle}
+use Rattle.monitor_core.specs.Commanding.{IsCoreCommand}
 use Rattle.monitor_core.specs.CoreSteps.{turns_of}
 
 -- a command that is one of these
 pub single_of : (command : Command) → ((pterm : List ℕ) × (text : List ℕ) × (command ≡ Input pterm text)) ⊎ (((ticks : ℕ) × (command ≡ Tick ticks)) ⊎ (((pterm : List ℕ) × (command ≡ Drop pterm)) ⊎ (((pterm : List ℕ) × (command ≡ Print pterm)) ⊎ ((pterm : List ℕ) × (command ≡ PrintLast pterm)))))
-    → IsSingle command × (turns_of command ≡ 1)
-single_of command (inl (pterm, text, is)) = (subst IsSingle (sym is) tt, ap turns_of is)
-single_of command (inr (inl (ticks, is))) = (subst IsSingle (sym is) tt, ap turns_of is)
-single_of command (inr (inr (inl (pterm, is)))) = (subst IsSingle (sym is) tt, ap turns_of is)
-single_of command (inr (inr (inr (inl (pterm, is))))) = (subst IsSingle (sym is) tt, ap turns_of is)
-single_of command (inr (inr (inr (inr (pterm, is))))) = (subst IsSingle (sym is) tt, ap turns_of is)
+    → IsCoreCommand command × (turns_of command ≡ 1)
+single_of command (inl (pterm, text, is)) = (subst IsCoreCommand (sym is) tt, ap turns_of is)
+single_of command (inr (inl (ticks, is))) = (subst IsCoreCommand (sym is) tt, ap turns_of is)
+single_of command (inr (inr (inl (pterm, is)))) = (subst IsCoreCommand (sym is) tt, ap turns_of is)
+single_of command (inr (inr (inr (inl (pterm, is))))) = (subst IsCoreCommand (sym is) tt, ap turns_of is)
+single_of command (inr (inr (inr (inr (pterm, is))))) = (subst IsCoreCommand (sym is) tt, ap turns_of is)
 
 -- and its step
-pub steps_of_single : (app : Application) (s : State) (command : Command) → IsSingle command → steps_of app s command ≡ command_of app s command ∷ []
+pub steps_of_single : (app : Application) (s : State) (command : Command) → IsCoreCommand command → steps_of app s command ≡ command_of app s command ∷ []
 unfolding steps_of
 steps_of_single app s (Input pterm text) single = refl
 steps_of_single app s (Tick ticks) single = refl

@@ -17,3 +17,8 @@ pub mod StartingLaws
 pub mod CoreValue
 pub mod Sound
 pub mod Steps
+pub mod Sinks
+pub mod Keeping
+pub mod KeepingLaws
+pub mod ScriptsLaws
+pub mod ResultsLaws

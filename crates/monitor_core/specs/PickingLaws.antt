@@ -26,7 +26,7 @@ use Rattle.abstract_monitor.specs.Picks.{Classed, classed, due_job, earlier_of, 
 use Rattle.abstract_monitor.specs.Picks.{target_is_allowed}
 use Rattle.abstract_monitor.specs.State.{Application, State}
 use Rattle.abstract_monitor.specs.Turns.{with_task}
-use Rattle.step_scheduler.specs.Schedule.{Schedule, pick_by, pick_queued, picked, picked_by, service_in, took_job, took_service}
+use Rattle.service_ends.specs.Schedule.{Schedule, pick_by, pick_queued, picked, picked_by, service_in, took_job, took_service}
 use Rattle.service_ends.specs.declared.core_state.parts.MonitorParts.{MonitorParts}
 use Rattle.service_ends.specs.ChangesLaws.{each_set, each_where, map_set, ready_without}
 use Rattle.service_ends.specs.KeptLaws.{scheduled, with_schedule}

@@ -9,7 +9,7 @@ use Rattle.kdcs_types.specs.Keys.{id_cmp}
 use Rattle.kdcs_calls.specs.Calling.{HoldersMatch, HoldsJust}
 use Rattle.kd_base.specs.MappedLaws.{find_mapped}
 use Rattle.open_transaction.specs.Transactions.{Boxed, boxed_transaction}
-use Rattle.step_scheduler.specs.Schedule.{Schedule}
+use Rattle.service_ends.specs.Schedule.{Schedule}
 use Rattle.abstract_monitor.specs.declared.answer.Happened.{Happened}
 use Rattle.abstract_monitor.specs.declared.answer.Happened.TheVariants.{Went, Queued, Waited, Held, Settles, Breaks, Returns}
 use Rattle.abstract_monitor.specs.Calls.{Told}

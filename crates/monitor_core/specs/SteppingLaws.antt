@@ -11,7 +11,7 @@ use Rattle.kdcs_types.specs.declared.key.ServiceId.{ServiceId}
 use Rattle.kdcs_types.specs.Keys.{id_cmp, id_eq}
 use Rattle.kd_base.specs.MappedLaws.{put_mapped}
 use Rattle.open_transaction.specs.Transactions.{Boxed, boxed_transaction}
-use Rattle.step_scheduler.specs.Schedule.{place_by, place_of, service_in, with_class, with_place}
+use Rattle.service_ends.specs.Schedule.{place_by, place_of, service_in, with_class, with_place}
 use Rattle.abstract_monitor.specs.declared.answer.Happened.{Happened}
 use Rattle.abstract_monitor.specs.declared.answer.Happened.TheVariants.{Went, Queued, Waited, Held, Settles, Breaks, Returns}
 use Rattle.abstract_monitor.specs.declared.answer.Called.{Called}

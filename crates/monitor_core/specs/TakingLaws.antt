@@ -12,7 +12,7 @@ use Rattle.kdcs_types.specs.Tables.{IsSortedTables, job_of}
 use Rattle.laws_of_states.specs.NumbersLaws.{free_not_placed}
 use Rattle.open_transaction.specs.Queue.{untaken, with_mark}
 use Rattle.open_transaction.specs.Transactions.{Boxed, boxed_transaction}
-use Rattle.step_scheduler.specs.Schedule.{Schedule, class_of_target, pick_queued, picked, service_in, took_job}
+use Rattle.service_ends.specs.Schedule.{Schedule, class_of_target, pick_queued, picked, service_in, took_job}
 use Rattle.abstract_monitor.specs.declared.work.Work.{Work}
 use Rattle.abstract_monitor.specs.declared.work.Work.TheVariants as work
 use Rattle.abstract_monitor.specs.Bytes.{Bytes}

@@ -10,8 +10,8 @@ use Rattle.kdcs_types.specs.declared.key.ServiceId.{ServiceId}
 use Rattle.kdcs_types.specs.declared.key.ServiceId.TheVariants.{Dialogue, Asynchronous}
 use Rattle.kdcs_types.specs.declared.service.Ending.{Ending}
 use Rattle.kdcs_types.specs.Keys.{id_cmp}
-use Rattle.application_check.specs.Fitted.{FittedUnits, IsFit}
-use Rattle.step_scheduler.specs.Schedule.{IsTask, place_by, place_of, service_in}
+use Rattle.application_types.specs.Fitted.{FittedUnits, IsFit}
+use Rattle.service_ends.specs.Schedule.{IsTask, place_by, place_of, service_in}
 use Rattle.abstract_monitor.specs.declared.answer.Happened.{Happened}
 use Rattle.abstract_monitor.specs.declared.answer.Happened.TheVariants.{Went, Queued, Waited, Held, Settles, Breaks, Returns}
 use Rattle.abstract_monitor.specs.declared.outcome.Outcome.{Outcome}
@@ -28,7 +28,7 @@ use Rattle.laws_of_states.specs.AfterLaws.{in_task}
 use Rattle.laws_of_states.specs.EntriesLaws.{found_put}
 use Rattle.laws_of_states.specs.Laws.{TurnsStayConsistent}
 use Rattle.laws_of_states.specs.PlacesLaws.{placed_of}
-use Rattle.laws_of_states.specs.PointLaws.{Stands}
+use Rattle.laws_of_states.specs.PointLaws.{IsSoundlyOpen}
 use Rattle.laws_of_states.specs.StateLaws.{StatesStaySound}
 use Rattle.service_ends.specs.declared.core_state.parts.MonitorParts.{MonitorParts}
 use Rattle.service_ends.specs.Standing.{IsIndexed, state_of}
@@ -177,8 +177,8 @@ module _ (p : MonitorParts) (task : ℕ) (id : ServiceId) (whole : IsWhole p) (a
         alone = ap (λ (u : State). Rattle.abstract_monitor.specs.Sessions.is_running (with_task u task None) id) state ∙ alone_of (app_of p) (state_of p) task id whole.facts.0 at;
         is_open = still_there;
         stands =
-            subst (λ (g : Generated). Stands g q.tables id x) (sym generation)
-            (subst (λ (u : State). Stands p.generation u.tables id x) (sym state)
+            subst (λ (g : Generated). IsSoundlyOpen g q.tables id x) (sym generation)
+            (subst (λ (u : State). IsSoundlyOpen p.generation u.tables id x) (sym state)
             (record { sound = sound_tables p whole.facts; can = whole.facts.1.transactions id x there; rooted = whole.facts.0.rooted id x there }));
       },
     )

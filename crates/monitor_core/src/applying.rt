@@ -2,7 +2,7 @@
 ghost use Rattle.std.specs.Prelude.{◌≡◌, ◌+◌, ◌<◌, ◌^◌, IfOk, IsTrue, OnOk};
 ghost use Rattle.abstract_monitor.specs.{CommandsOf.{is_pterm, IsCommandOf}, Commands.{command_of}};
 ghost use Rattle.service_ends.specs.{Whole.{app_of, IsWhole}, Standing.{IsIndexed, SameApplication, state_of}};
-ghost use Rattle.monitor_core.specs.{Commanding.{printed, Comes, IsSingle}, Counted.{IsAhead}};
+ghost use Rattle.monitor_core.specs.{Commanding.{printed, Comes, IsCoreCommand}, Counted.{IsAhead}};
 
 use crate::clock::tick;
 use crate::input::input;
@@ -46,7 +46,7 @@ fn do_command(
     command: &Command,
 ) -> Result<Acts, OutOfMemory>
     requires whole { IsWhole parts.old }
-    requires single { IsSingle command.now }
+    requires core_command { IsCoreCommand command.now }
     requires names { IsCommandOf parts.old.generation command.now }
     requires ahead { IsAhead parts.old }
     requires steps { parts.old.steps < 2 ^ 64 }
@@ -73,7 +73,7 @@ pub(crate) fn apply(
     command: &Command,
 ) -> Result<Acts, OutOfMemory>
     requires whole { IsWhole parts.old }
-    requires single { IsSingle command.now }
+    requires core_command { IsCoreCommand command.now }
     requires names { IsCommandOf parts.old.generation command.now }
     requires steps { parts.old.steps + 1 < 2 ^ 64 }
     ensures exact { IfOk result (λ acts. Comes (state_of parts.new) acts (command_of (app_of parts.old) (state_of parts.old) command.now)) }

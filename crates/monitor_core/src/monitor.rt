@@ -1,15 +1,15 @@
 //! A monitor between two commands.
 ghost use Rattle.std.specs.Prelude.{◌≡◌, ◌<◌, ◌^◌, IfOk, IsTrue};
-ghost use Rattle.application_check.specs.Soundness.{AreLimits};
+ghost use Rattle.application_types.specs.Soundness.{AreLimits};
 ghost use Rattle.application_types.specs.Statements.{IsWithin};
 ghost use Rattle.kdcs_types.specs.Tables.{IsSortedTables};
-ghost use Rattle.application_check.specs.Fitted.{IsFit};
+ghost use Rattle.application_types.specs.Fitted.{IsFit};
 ghost use Rattle.laws_of_runs.specs.Applied.{applied};
 ghost use Rattle.laws_of_states.specs.{Applications.{IsApplication}, Keeping.{HasFacts}, Replay.{SettlesAs}, Suits.{Suits}};
 ghost use Rattle.abstract_monitor.specs.{CommandsOf.{IsCommandOf, is_pterm}, Commands.{command_of, lterm_at, started, turned_step, use_now}, Endings.{durable}, Turns.{turn_of}};
 ghost use Rattle.laws_of_runs.specs.{Access.{KeepsAccess}, QueueLaws.{KeepsQueues}, Replays.{AllReplay}, SerialLaws.{IsSerialStep}};
 ghost use Rattle.service_ends.specs.Ending.{turned_to};
-ghost use Rattle.monitor_core.specs.Commanding.{Comes, IsSingle};
+ghost use Rattle.monitor_core.specs.Commanding.{Comes, IsCoreCommand};
 ghost use Rattle.monitor_core.specs.{CoreValue.{OneStep, core_value}, Steps.{came_to}};
 
 use crate::applying::apply;
@@ -17,8 +17,8 @@ use crate::input::use_of;
 use crate::start::parts_of;
 use crate::turning::turn;
 use abstract_monitor::{Command, Use};
-use application_check::kdcdef_check::Generation;
-use application_check::unit_check::Units;
+use application_types::generation::Generation;
+use application_types::units::Units;
 use kd_base::{Name, OutOfMemory};
 use kdcs_types::{Acts, Tables};
 use laws_of_runs::laws_of_access::steps_keep_access;
@@ -81,7 +81,7 @@ impl Core {
     /// in one go, makes of the durable tables. A dialogue service begins only where the rule of locks and keys allows it, and
     /// an input is denied just where that rule alone forbids it.
     pub fn apply(self, alloc: Global, command: &Command) -> Result<(Core, Acts), OutOfMemory>
-        requires single { IsSingle command.now }
+        requires core_command { IsCoreCommand command.now }
         requires names { IsCommandOf self.application.generation command.now }
         requires steps { self.steps < 10 ^ 18 }
         ensures exact { IfOk result (λ done. Comes done.0.state done.1 (command_of self.application self.state command.now)) }

@@ -8,7 +8,7 @@ ghost use Rattle.service_ends.specs.{Whole.{app_of, IsWhole}, Standing.{IsIndexe
 ghost use Rattle.monitor_core.specs.Commanding.{Comes, Rests};
 
 use crate::message::{line_alone, say};
-use application_check::kdcdef_check::Generation;
+use application_types::generation::Generation;
 use kd_base::{Bytes, Name, OutOfMemory};
 use kdcs_types::{Act, Acts, Service, ServiceId, Tables};
 use monitor_parts::output_lines::{out_line, signed_on_line};

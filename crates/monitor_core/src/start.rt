@@ -1,14 +1,14 @@
 //! A warm or cold start.
 ghost use Rattle.std.specs.Prelude.{◌≡◌, ◌++◌, ◌∷◌, [], IfOk, OnOk, filter, map};
 ghost use Rattle.open_transaction.specs.Queue.{untaken};
-ghost use Rattle.step_scheduler.specs.Schedule.{all_free};
+ghost use Rattle.service_ends.specs.Schedule.{all_free};
 ghost use Rattle.abstract_monitor.specs.{Commands.{asynchronous_rows, started}, Endings.{is_asynchronous}};
 ghost use Rattle.laws_of_states.specs.Suits.{Suits};
 ghost use Rattle.service_ends.specs.{Standing.{IsIndexed, SameApplication, state_of}, Whole.{app_of}};
 ghost use Rattle.monitor_core.specs.Starting.{AreFresh, IsFresh, all_opened, idle, opened_then};
 
-use application_check::kdcdef_check::Generation;
-use application_check::unit_check::Units;
+use application_types::generation::Generation;
+use application_types::units::Units;
 use kd_base::OutOfMemory;
 use kd_base::sorted_pairs::OrderedMap;
 use kdcs_types::{Service, ServiceId, Tables};
@@ -17,8 +17,8 @@ use monitor_parts::session_table::Sessions;
 use open_transaction::async_queue::Jobs;
 use service_ends::core_state::MonitorParts;
 use service_ends::go_on;
+use service_ends::step_scheduler::Scheduler;
 use std::alloc::Global;
-use step_scheduler::Scheduler;
 use table_fit::total_charge;
 
 // The ready list with all tasks free, and the jobs of the tables, of which none is taken.

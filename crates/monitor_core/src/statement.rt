@@ -1,7 +1,7 @@
 //! The next statement of a service.
 ghost use Rattle.std.specs.Prelude.{◌≡◌, ◌+◌, ◌<◌, ◌^◌, IfOk, OnOk};
 ghost use Rattle.abstract_monitor.specs.Turns.{statement_now};
-ghost use Rattle.step_scheduler.specs.Schedule.{IsTask};
+ghost use Rattle.service_ends.specs.Schedule.{IsTask};
 ghost use Rattle.service_ends.specs.{Standing.{IsIndexed, state_of}, Whole.{IsWhole, app_of}};
 ghost use Rattle.service_ends.specs.Ending.{ForOpen};
 ghost use Rattle.monitor_core.specs.Turning.{state_by, IsHeldBy};
@@ -11,8 +11,8 @@ use kd_base::OutOfMemory;
 use kdcs_calls::service_statement::do_statement;
 use kdcs_types::ServiceId;
 use service_ends::core_state::MonitorParts;
+use service_ends::step_scheduler::class_of;
 use std::alloc::Global;
-use step_scheduler::class_of;
 
 /// The next statement of the service of a task, before what follows it: the transaction, its locks and its wait are as the
 /// statement leaves them, and the task has the class of the TAC that runs then.

@@ -2,7 +2,7 @@
 ghost use Rattle.std.specs.Prelude.{◌≡◌, ◌-◌, Some, None, IfOk, OnOk, slice_get};
 ghost use Rattle.kdcs_types.specs.Tables.{job_of};
 ghost use Rattle.abstract_monitor.specs.{Picks.{pick}, Turns.{took}};
-ghost use Rattle.step_scheduler.specs.Schedule.{IsTask};
+ghost use Rattle.service_ends.specs.Schedule.{IsTask};
 ghost use Rattle.service_ends.specs.Ending.{turned_to};
 ghost use Rattle.service_ends.specs.{Standing.{IsIndexed, SameApplication, state_of}, Whole.{IsWhole, app_of}};
 ghost use Rattle.monitor_core.specs.Turning.{BegunBy};

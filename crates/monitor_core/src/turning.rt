@@ -15,7 +15,7 @@ use kdcs_types::ServiceId;
 use laws_of_states::laws_of_places::states_stay_consistent;
 use laws_of_states::laws_of_tables::states_stay_sound;
 use service_ends::core_state::MonitorParts;
-use service_ends::{Turned, end, go_back, hold, queue, settle};
+use service_ends::{Turned, end, go_back, hold, pass_point, queue};
 use std::alloc::Global;
 
 // The statement of the service in this task, and what follows it.
@@ -40,7 +40,7 @@ fn serve(
         Happened::Waited => Ok(Turned::quiet(alloc, false)),
         Happened::Queued => queue(parts, alloc, task, id),
         Happened::Held(_) => hold(parts, alloc, task, id),
-        Happened::Settles(outcome) => settle(parts, alloc, task, id, outcome),
+        Happened::Settles(outcome) => pass_point(parts, alloc, task, id, outcome),
         Happened::Breaks(ending) => end(parts, alloc, task, id, ending),
         Happened::Returns => go_back(parts, alloc, task, id),
     }

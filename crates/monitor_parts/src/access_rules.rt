@@ -1,13 +1,14 @@
 //! Who may start what: the rule of locks and keys.
 //!
-//! It stands on the generation and on the definitions of the abstract monitor. To the crates that ask before a dialogue
-//! service begins its contract says whether the rule denies a TAC to a user at an LTERM, and for whose lack of which code.
+//! It stands on the generation and on the definitions of the abstract monitor. To the layers above, which ask before a
+//! dialogue service begins, its contract says whether the rule denies a TAC to a user at an LTERM, and for whose lack
+//! of which code.
 
 ghost use Rattle.std.specs.Prelude.{◌≡◌};
 ghost use Rattle.abstract_monitor.specs.Access.{denial_of};
 
 use abstract_monitor::Denial;
-use application_check::kdcdef_check::Generation;
+use application_types::generation::Generation;
 use kd_base::Name;
 
 /// Why this user, at a terminal of this LTERM, may not start a service with this TAC; `None` where the TAC has no lock, or

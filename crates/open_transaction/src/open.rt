@@ -6,7 +6,7 @@ ghost use Rattle.open_transaction.specs.Transactions.{transaction_of, accepted_o
 
 use crate::async_queue::DraftJobs;
 use crate::held::HeldAreas;
-use application_check::kdcdef_check::Generation;
+use application_types::generation::Generation;
 use application_types::unit_types::Unit;
 use kd_base::{Bytes, Name, OutOfMemory};
 use kdcs_types::{Areas, Header, Notes, Parts, Reply, RunState, Service, ServiceId};

@@ -73,11 +73,11 @@ gone_last : (undo : List Undo) (u : Undo) → gone_keys (undo ++ u ∷ []) ≡ g
 gone_last undo u = flat_map-append gone_by undo (u ∷ []) ∙ ap (λ (l : List RecordKey). gone_keys undo ++ l) (append-nil (gone_by u))
 
 -- a table after one more change, and it can be taken back to where the one before it can be
-pub record GoesOn (t : Parts) (undo : List Undo) (after : Parts) (more : List Undo) : Type 0 where
+pub record CanUndoMore (t : Parts) (undo : List Undo) (after : Parts) (more : List Undo) : Type 0 where
   pub changing : IsChanging after more
   pub before : undone_all more after ≡ undone_all undo t
 
-goes_on : (t : Parts) (undo : List Undo) (u : Undo) (after : Parts) → undone u after ≡ t → IsChanging t undo → IsIndexed after (gone_keys undo ++ gone_by u) → place_of u < length t.slots → GoesOn t undo after (undo ++ u ∷ [])
+goes_on : (t : Parts) (undo : List Undo) (u : Undo) (after : Parts) → undone u after ≡ t → IsChanging t undo → IsIndexed after (gone_keys undo ++ gone_by u) → place_of u < length t.slots → CanUndoMore t undo after (undo ++ u ∷ [])
 goes_on t undo u after back is indexed place =
     let long : length t.slots ≡ length after.slots = ap (λ (p : Parts). length p.slots) (sym back) ∙ undone_slots u after in
     let before : undone_all (undo ++ u ∷ []) after ≡ undone_all undo t = undone_last undo u after ∙ ap (undone_all undo) back in
@@ -98,7 +98,7 @@ same_slot : (slots : List (Option Chain)) (s : ℕ) (o x : Option Chain) → o �
 same_slot slots s o x read at = sym (read ∙ get_or_from_slice_get slots s x o at)
 
 module _ (t : Parts) (undo same more : List Undo) (is : IsChanging t undo) (u : same ≡ undo) where
-  replaced_here : (s : ℕ) (c d : Chain) → At t.slots s (Some c) → c.key ≡ d.key → GoesOn t undo (record t { slots = set t.slots s (Some d) }) (undo ++ Replaced s c ∷ [])
+  replaced_here : (s : ℕ) (c d : Chain) → At t.slots s (Some c) → c.key ≡ d.key → CanUndoMore t undo (record t { slots = set t.slots s (Some d) }) (undo ++ Replaced s c ∷ [])
   replaced_here s c d at key =
       goes_on t undo (Replaced s c) (record t { slots = set t.slots s (Some d) }) (replaced_back t s c (Some d) at) is
       (subst (IsIndexed (record t { slots = set t.slots s (Some d) })) (sym (append-nil (gone_keys undo))) (indexed_replaced t (gone_keys undo) is.indexed s c d at key))
@@ -106,24 +106,24 @@ module _ (t : Parts) (undo same more : List Undo) (is : IsChanging t undo) (u : 
 
   -- a slot with this key has another chain, and had the one that was read
   pub replaced_on : (free : List ℕ) (s : ℕ) (c d : Chain) (o new : Option Chain) → free ≡ t.free → new ≡ Some d → more ≡ same ++ Replaced s c ∷ [] → HasKey t.slots s d.key → o ≡ get_or t.slots s o → Some c ≡ o
-      → GoesOn t undo (record { slots = set t.slots s new; index = t.index; free = free }) more
+      → CanUndoMore t undo (record { slots = set t.slots s new; index = t.index; free = free }) more
   replaced_on free s c d o new f n m has read was =
       let there : Some has.0 ≡ Some c = same_slot t.slots s o (Some has.0) read has.1 ∙ sym was in
       rw (f, n, m, u) (replaced_here s c d (has.1 ∙ ap (λ (x : Option Chain). Some x) there) (ap (λ (x : Chain). x.key) (sym (same_Some has.0 c there)) ∙ has.2))
 
-  removed_here : (s : ℕ) (c : Chain) → At t.slots s (Some c) → GoesOn t undo (record t { slots = set t.slots s None; free = t.free ++ s ∷ [] }) (undo ++ Removed s c ∷ [])
+  removed_here : (s : ℕ) (c : Chain) → At t.slots s (Some c) → CanUndoMore t undo (record t { slots = set t.slots s None; free = t.free ++ s ∷ [] }) (undo ++ Removed s c ∷ [])
   removed_here s c at =
       goes_on t undo (Removed s c) (record t { slots = set t.slots s None; free = t.free ++ s ∷ [] }) (removed_back t s c at) is (indexed_removed t (gone_keys undo) is.indexed s c at) (at_within t.slots s (Some c) at)
 
   -- a slot with a record is free, and had the chain that was read
   pub removed_on : (room free : List ℕ) (s : ℕ) (c : Chain) (o new : Option Chain) → room ≡ t.free → free ≡ room ++ s ∷ [] → new ≡ None → more ≡ same ++ Removed s c ∷ [] → (d : Chain) × At t.slots s (Some d) → o ≡ get_or t.slots s o → Some c ≡ o
-      → GoesOn t undo (record { slots = set t.slots s new; index = t.index; free = free }) more
+      → CanUndoMore t undo (record { slots = set t.slots s new; index = t.index; free = free }) more
   removed_on room free s c o new r f n m has read was =
       let there : Some has.0 ≡ Some c = same_slot t.slots s o (Some has.0) read has.1 ∙ sym was in
       rw (f, r, n, m, u) (removed_here s c (has.1 ∙ ap (λ (x : Option Chain). Some x) there))
 
   added_here : (less : List ℕ) (s : ℕ) (d : Chain) → t.free ≡ less ++ s ∷ [] → IsAbsent d.key t.slots → At t.slots s None
-      → GoesOn t undo (record { slots = set t.slots s (Some d); index = put key_cmp d.key s t.index; free = less }) (undo ++ Added s d.key (find key_cmp d.key t.index) ∷ [])
+      → CanUndoMore t undo (record { slots = set t.slots s (Some d); index = put key_cmp d.key s t.index; free = less }) (undo ++ Added s d.key (find key_cmp d.key t.index) ∷ [])
   added_here less s d split absent at =
       let no_chain : Option Chain = None in
       let after : Parts = record { slots = set t.slots s (Some d); index = put key_cmp d.key s t.index; free = less } in
@@ -133,7 +133,7 @@ module _ (t : Parts) (undo same more : List Undo) (is : IsChanging t undo) (u : 
 
   -- the last free slot has a chain with a new key
   pub added_on : (index : Index) (free less : List ℕ) (s : ℕ) (was : Option ℕ) (d : Chain) → index ≡ put key_cmp d.key s t.index → free ≡ less → t.free ≡ less ++ s ∷ [] → was ≡ find key_cmp d.key t.index → more ≡ same ++ Added s d.key was ∷ []
-      → IsAbsent d.key t.slots → At t.slots s None → GoesOn t undo (record { slots = set t.slots s (Some d); index = index; free = free }) more
+      → IsAbsent d.key t.slots → At t.slots s None → CanUndoMore t undo (record { slots = set t.slots s (Some d); index = index; free = free }) more
   added_on index free less s was d x f split w m absent at = rw (x, f, m, u, w) (added_here less s d split absent at)
 
 -- a slot with a record is not read as free

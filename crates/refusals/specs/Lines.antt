@@ -9,7 +9,7 @@ use Rattle.script_read.specs.declared.fault.ScriptFault.TheVariants.{BadLine, Ou
 use Rattle.audit_trail.specs.declared.fault.TrailFault.{TrailFault}
 use Rattle.audit_trail.specs.declared.fault.TrailFault.TheVariants as trail
 use Rattle.refusals.specs.declared.error.FileRefusal.{FileRefusal}
-use Rattle.refusals.specs.declared.error.FileRefusal.TheVariants.{NotKdcfile, OtherGeneration, OtherBlksize, SmallerPool, TooManyGssbs, TooLarge, Differs}
+use Rattle.refusals.specs.declared.error.FileRefusal.TheVariants.{NotKdcfile, OtherGeneration, OtherBlksize, SmallerPool, TooManyGssbs, TooLarge, SequenceSpent, TwoCopies, Differs}
 use Rattle.refusals.specs.declared.error.Refusal.{Refusal}
 use Rattle.refusals.specs.declared.error.Refusal.TheVariants.{Application, Double, Script, Trail}
 
@@ -55,4 +55,6 @@ file_line (OtherBlksize n) = codes "KDCFILE OTHER BLKSIZE " ++ (decimal n ++ cod
 file_line (SmallerPool n) = codes "KDCFILE SMALLER POOL " ++ (decimal n ++ codes "\n")
 file_line (TooManyGssbs n) = codes "KDCFILE TOO MANY GSSBS " ++ (decimal n ++ codes "\n")
 file_line (TooLarge n) = codes "KDCFILE TABLES TOO LARGE " ++ (decimal n ++ codes "\n")
+file_line SequenceSpent = codes "KDCFILE SEQUENCE SPENT\n"
+file_line TwoCopies = codes "KDCFILE IS DOUBLE\n"
 file_line (Differs n) = codes "AUDIT " ++ (decimal n ++ codes "\n")

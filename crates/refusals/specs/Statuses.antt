@@ -4,7 +4,7 @@ use Rattle.std.specs.List.{list_any}
 use Rattle.refusals.specs.declared.error.Refusal.{Refusal}
 use Rattle.refusals.specs.declared.error.Refusal.TheVariants.{Application, Double, Script, Trail}
 use Rattle.refusals.specs.declared.error.FileRefusal.{FileRefusal}
-use Rattle.refusals.specs.declared.error.FileRefusal.TheVariants.{NotKdcfile, OtherGeneration, OtherBlksize, SmallerPool, TooManyGssbs, TooLarge, Differs}
+use Rattle.refusals.specs.declared.error.FileRefusal.TheVariants.{NotKdcfile, OtherGeneration, OtherBlksize, SmallerPool, TooManyGssbs, TooLarge, SequenceSpent, TwoCopies, Differs}
 
 -- the status is one of these
 abbrev pub IsOneOf : List ℕ → ℕ → Type 0
@@ -25,4 +25,6 @@ status_of_file (OtherBlksize n) = 4
 status_of_file (SmallerPool n) = 4
 status_of_file (TooManyGssbs n) = 4
 status_of_file (TooLarge n) = 4
+status_of_file SequenceSpent = 4
+status_of_file TwoCopies = 4
 status_of_file (Differs n) = 8

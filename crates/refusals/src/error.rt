@@ -34,6 +34,10 @@ pub enum FileRefusal {
     TooManyGssbs(u32),
     /// The rows that would be carried are charged so many pages, and PGPOOL is less.
     TooLarge(u64),
+    /// It is kept twice, and the sequence of the copy that counts is too great to go on from.
+    SequenceSpent,
+    /// It is kept twice, and two copies are not carried to another generation.
+    TwoCopies,
     /// An entry of the trail does not hold: the first such one has this number, from 1.
     Differs(u64),
 }

@@ -125,7 +125,7 @@ fn other_generation_line(alloc: Global, stored: &[u8; 32]) -> Result<Vec<u8>, Al
     Ok(line)
 }
 
-/// The line of a file that is refused with a number, or for its bytes.
+/// The line of a file that is refused for anything but its other texts.
 fn limit_line(alloc: Global, why: &FileRefusal) -> Result<String, AllocError>
     ensures { IfOk result (λ line. ((stored : List ℕ) → why.now ≡ OtherGeneration stored → ⊥) → string_bytes line ≡ file_line why.now) }
 {
@@ -136,6 +136,8 @@ fn limit_line(alloc: Global, why: &FileRefusal) -> Result<String, AllocError>
         FileRefusal::SmallerPool(n) => format!(in alloc; "KDCFILE SMALLER POOL {n}\n"),
         FileRefusal::TooManyGssbs(n) => format!(in alloc; "KDCFILE TOO MANY GSSBS {n}\n"),
         FileRefusal::TooLarge(n) => format!(in alloc; "KDCFILE TABLES TOO LARGE {n}\n"),
+        FileRefusal::SequenceSpent => String::from_str(alloc, "KDCFILE SEQUENCE SPENT\n"),
+        FileRefusal::TwoCopies => String::from_str(alloc, "KDCFILE IS DOUBLE\n"),
         FileRefusal::Differs(n) => format!(in alloc; "AUDIT {n}\n"),
     }
 }
@@ -150,6 +152,8 @@ fn file_line(alloc: Global, why: &FileRefusal) -> Result<Vec<u8>, AllocError>
         | FileRefusal::SmallerPool(_)
         | FileRefusal::TooManyGssbs(_)
         | FileRefusal::TooLarge(_)
+        | FileRefusal::SequenceSpent
+        | FileRefusal::TwoCopies
         | FileRefusal::Differs(_) => Ok(limit_line(alloc, why)?.into_bytes()),
     }
 }
@@ -164,7 +168,9 @@ fn status_of_file(why: &FileRefusal) -> Status
         | FileRefusal::OtherBlksize(_)
         | FileRefusal::SmallerPool(_)
         | FileRefusal::TooManyGssbs(_)
-        | FileRefusal::TooLarge(_) => Status::FILE,
+        | FileRefusal::TooLarge(_)
+        | FileRefusal::SequenceSpent
+        | FileRefusal::TwoCopies => Status::FILE,
         FileRefusal::Differs(_) => Status::AUDIT,
     }
 }

@@ -11,7 +11,7 @@ use crate::reading::LineReader;
 use crate::terminal::pterm_of;
 use crate::word::{next_word, same, split_at_space};
 use abstract_monitor::Command;
-use application_check::kdcdef_check::Generation;
+use application_types::generation::Generation;
 use kd_base::{Bytes, LAST_CLOCK};
 use std::alloc::Global;
 

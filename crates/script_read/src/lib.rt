@@ -1,8 +1,8 @@
 //! Scripts: a text of commands, a line each.
 //!
-//! It stands on kd_base, texts, kdcs_types, kdcdef_types, kdcdef_check and abstract_monitor. To the top call, its contract
-//! says that a text is read exactly as the commands that its lines say in a generation, or refused with the first line
-//! that says none; and that the PTERMs and tasks of these commands are those of the generation.
+//! It stands on kd_base, texts, kdcs_types, application_types and abstract_monitor. To the top call, its contract says
+//! that a text is read exactly as the commands that its lines say in a generation, or refused with the first line that
+//! says none; and that the PTERMs and tasks of these commands are those of the generation.
 #![tactic(auto)]
 
 mod command;

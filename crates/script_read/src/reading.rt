@@ -7,7 +7,7 @@ ghost use Rattle.abstract_monitor.specs.CommandsOf.{IsCommandOf};
 use crate::fault::ScriptFault;
 use crate::line::is_passed;
 use abstract_monitor::Command;
-use application_check::kdcdef_check::Generation;
+use application_types::generation::Generation;
 use kd_base::{LONGEST_TEXT, Sequence};
 use std::alloc::Global;
 use texts::next_line;

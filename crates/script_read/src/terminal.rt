@@ -3,7 +3,7 @@ ghost use Rattle.std.specs.Prelude.{◌≡◌, Some};
 ghost use Rattle.script_read.specs.{Commands.{lterm_at, pterm_in}, Reading.{line_result, found_of}};
 
 use crate::fault::ScriptFault;
-use application_check::kdcdef_check::Generation;
+use application_types::generation::Generation;
 use application_types::kdcdef_types::LtermEntry;
 use kd_base::Name;
 

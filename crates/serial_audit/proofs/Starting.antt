@@ -5,7 +5,7 @@ use Rattle.std.proofs.lemmas.Result.{IfOk-weaker}
 use Rattle.kdcs_types.specs.declared.act.Changes.{Changes}
 use Rattle.kdcs_types.specs.declared.service.Settled.{Settled}
 use Rattle.kdcs_types.specs.Tables.{TableRows, IsSortedTables}
-use Rattle.application_check.specs.Soundness.{AreLimits}
+use Rattle.application_types.specs.Soundness.{AreLimits}
 use Rattle.application_types.specs.declared.kdcdef_types.limits.Limits.{Limits}
 use Rattle.application_types.specs.Generation.{Generated}
 use Rattle.abstract_monitor.specs.Charges.{total_charge}
@@ -15,7 +15,7 @@ use Rattle.laws_of_runs.specs.Applied.{applied}
 use Rattle.laws_of_states.specs.Applications.{IsApplication}
 use Rattle.laws_of_states.specs.Replay.{with_began}
 use Rattle.laws_of_states.specs.Suits.{Suits}
-use Rattle.application_check.specs.Fitted.{FittedUnits, IsFit}
+use Rattle.application_types.specs.Fitted.{FittedUnits, IsFit}
 use Rattle.serial_audit.specs.Audit.{BeganIn, IsTrailRecord}
 use Rattle.serial_audit.specs.Expecting.{ExpectsReplay, IsReady, IsReplayed}
 use Rattle.serial_audit.specs.Opening.{Rooted}

@@ -6,7 +6,7 @@ use Rattle.kd_base.specs.Text.{IsName}
 use Rattle.application_types.specs.declared.kdcdef_types.entry.LtermEntry.{LtermEntry}
 use Rattle.application_types.specs.declared.kdcdef_types.entry.TacEntry.{TacEntry}
 use Rattle.application_types.specs.Generation.{Generated, entry_of}
-use Rattle.application_check.specs.Soundness.{AreNamed, HaveProperNames}
+use Rattle.application_types.specs.Soundness.{AreNamed, HaveProperNames}
 use Rattle.abstract_monitor.specs.Bytes.{Bytes}
 use Rattle.abstract_monitor.specs.Calls.{or_empty}
 use Rattle.abstract_monitor.specs.Statements.{Kept}

@@ -15,7 +15,7 @@ use Rattle.laws_of_states.specs.Transactions.{CanGoOn}
 use Rattle.laws_of_states.specs.PointLaws.{AreSound}
 use Rattle.open_transaction.specs.declared.open.OpenTransaction.{OpenTransaction}
 use Rattle.open_transaction.specs.Transactions.{transaction_of}
-use Rattle.application_check.specs.Fitted.{FittedUnits, IsFit}
+use Rattle.application_types.specs.Fitted.{FittedUnits, IsFit}
 use Rattle.serial_audit.specs.Asking.{HoldsAlone}
 use Rattle.serial_audit.specs.Audit.{BeginsRightly, HasShortItems}
 use Rattle.serial_audit.specs.declared.replay.Replay.{Replay}

@@ -5,7 +5,7 @@ ghost use Rattle.kdcs_calls.specs.Calling.{is_declared};
 ghost use Rattle.open_transaction.specs.Transactions.{transaction_of};
 ghost use Rattle.serial_audit.specs.Asking.{asks_lock, locks};
 
-use application_check::kdcdef_check::Generation;
+use application_types::generation::Generation;
 use kd_base::{Bytes, Name, trim_end};
 use kdcs_types::{Area, Call};
 use open_transaction::OpenTransaction;

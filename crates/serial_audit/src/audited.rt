@@ -3,13 +3,13 @@ ghost use Rattle.std.specs.Prelude.{◌≡◌, IfOk, Some};
 ghost use Rattle.kdcs_types.specs.Tables.{AreChanges, IsSortedTables, TableRows, changed};
 ghost use Rattle.laws_of_states.specs.Suits.{Suits};
 ghost use Rattle.laws_of_runs.specs.Applied.{applied};
-ghost use Rattle.application_check.specs.Fitted.{IsFit};
+ghost use Rattle.application_types.specs.Fitted.{IsFit};
 ghost use Rattle.serial_audit.specs.{Answers.{IfDiffers, IfHolds}, Audit.{HasTrailRecord, HoldsFor}};
 
 use crate::expected::expected_changes;
 use crate::same::same_changes;
-use application_check::kdcdef_check::Generation;
-use application_check::unit_check::Units;
+use application_types::generation::Generation;
+use application_types::units::Units;
 use audit_trail::TrailEntry;
 use kd_base::OutOfMemory;
 use kdcs_types::{Changes, Tables};

@@ -4,13 +4,13 @@ ghost use Rattle.kd_base.specs.Limits.{last_clock};
 ghost use Rattle.laws_of_runs.specs.Applied.{applied};
 ghost use Rattle.laws_of_states.specs.CommitLaws.{tick_changes};
 ghost use Rattle.laws_of_states.specs.Suits.{Suits};
-ghost use Rattle.application_check.specs.Fitted.{IsFit};
+ghost use Rattle.application_types.specs.Fitted.{IsFit};
 ghost use Rattle.serial_audit.specs.{Audit.{HasTrailRecord}, Expecting.{Expects}};
 
 use crate::shows::show_changes;
 use crate::transaction::transaction_changes;
-use application_check::kdcdef_check::Generation;
-use application_check::unit_check::Units;
+use application_types::generation::Generation;
+use application_types::units::Units;
 use audit_trail::By;
 use kd_base::{LAST_CLOCK, OutOfMemory};
 use kdcs_types::{Changes, RowChanges, Tables};

@@ -5,7 +5,7 @@ ghost use Rattle.laws_of_states.specs.{Replay.{lterm_in, tac_in}, Suits.{fits_me
 ghost use Rattle.serial_audit.specs.Audit.{BeginsRightly, HasShortItems, has_user, note_fits};
 
 use crate::replay::accepted;
-use application_check::kdcdef_check::Generation;
+use application_types::generation::Generation;
 use kd_base::{Bytes, LONGEST_CONTENT, Name};
 use kdcs_types::{Note, Service, ServiceId, Settled};
 

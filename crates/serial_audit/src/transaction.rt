@@ -5,7 +5,7 @@ ghost use Rattle.abstract_monitor.specs.{Charges.{total_charge}, Endings.{durabl
 ghost use Rattle.kdcs_types.specs.Tables.{AreChanges, lterm_fits, service_of};
 ghost use Rattle.laws_of_runs.specs.Applied.{applied};
 ghost use Rattle.laws_of_states.specs.Suits.{Suits};
-ghost use Rattle.application_check.specs.Fitted.{IsFit};
+ghost use Rattle.application_types.specs.Fitted.{IsFit};
 ghost use Rattle.serial_audit.specs.{Audit.{BeganIn, HasDueJob, IsDueFor, IsTrailRecord, most_statements, volatile_row_suits}, Expecting.{ExpectsReplay, IsReady, IsReplayed}, Opening.{Rooted}};
 ghost use Rattle.serial_audit.specs.Replaying.{Auditable, IsAuditable, app_of, kept_in, tables_in};
 ghost use Rattle.laws_of_states.specs.Replay.{lterm_in, tac_in};
@@ -16,8 +16,8 @@ use crate::notes::same_notes;
 use crate::opening::open;
 use crate::replay::{Replay, has_read, run};
 use crate::same::same_ending;
-use application_check::kdcdef_check::Generation;
-use application_check::unit_check::Units;
+use application_types::generation::Generation;
+use application_types::units::Units;
 use kd_base::{Name, OutOfMemory};
 use kdcs_calls::service_statement::Outside;
 use kdcs_types::{

@@ -30,7 +30,7 @@ use Rattle.abstract_monitor.specs.Statements.{kept_record}
 use Rattle.abstract_monitor.specs.Turns.{Turned, abnormal, after_point, committed, dump_acts, ended_acts, message_acts, message_sent, moved_to, settled, settled_by, told_user, user_acts, with_open}
 use Rattle.abstract_monitor.specs.Turns.{with_task, without_open, without_transaction}
 use Rattle.laws_of_states.specs.EntriesLaws.{found_put, found_without}
-use Rattle.laws_of_states.specs.PointLaws.{Stands}
+use Rattle.laws_of_states.specs.PointLaws.{IsSoundlyOpen}
 use Rattle.open_transaction.specs.Transactions.{Boxed, boxed_transaction, HasOrder}
 use Rattle.service_ends.specs.declared.core_state.parts.MonitorParts.{MonitorParts}
 use Rattle.service_ends.specs.KeptLaws.{found_transaction}
@@ -52,9 +52,9 @@ found_one o transaction found x is found_is x_is = under (sym (ap (option_map bo
     under : {A : Type 0} {a b : A} → Some a ≡ Some b → a ≡ b
     under e = cc
 
-stands_as : (g h : Generated) (t u : TableRows) (i j : ServiceId) (x y : OpenTransaction) → h ≡ g → u ≡ t → j ≡ i → y ≡ x → Stands g t i x → Stands h u j y
+stands_as : (g h : Generated) (t u : TableRows) (i j : ServiceId) (x y : OpenTransaction) → h ≡ g → u ≡ t → j ≡ i → y ≡ x → IsSoundlyOpen g t i x → IsSoundlyOpen h u j y
 stands_as g h t u i j x y a b c d s =
-    subst (λ k. Stands k u j y) (sym a) (subst (λ k. Stands g k j y) (sym b) (subst (λ k. Stands g t k y) (sym c) (subst (λ k. Stands g t i k) (sym d) s)))
+    subst (λ k. IsSoundlyOpen k u j y) (sym a) (subst (λ k. IsSoundlyOpen g k j y) (sym b) (subst (λ k. IsSoundlyOpen g t k y) (sym c) (subst (λ k. IsSoundlyOpen g t i k) (sym d) s)))
 
 -- the transaction that was closed
 pub closed_transaction : (p q : MonitorParts) (task : ℕ) (id : ServiceId) (x : OpenTransaction) (transaction : Boxed) → Serves p task id x → SameApplication p q
@@ -123,7 +123,7 @@ settles app s task id x o = settles_by app s task id x o _
 
 -- an abnormal end after its commit
 pub breaks_as : (p : MonitorParts) (w : Boxed) (e : Ending) (id : ServiceId) (dump : Option (List ℕ)) (changes : Changes) (kept : Settled) → changes ≡ durable_difference p.generation p.tables (broken p.generation p.tables w.value.id (boxed_transaction w))
-    → kept ≡ kept_record w.value.id (boxed_transaction w) e → emitted dump ≡ dump_acts w.value.id (boxed_transaction w) e → id ≡ w.value.id → Stands p.generation p.tables w.value.id (boxed_transaction w)
+    → kept ≡ kept_record w.value.id (boxed_transaction w) e → emitted dump ≡ dump_acts w.value.id (boxed_transaction w) e → id ≡ w.value.id → IsSoundlyOpen p.generation p.tables w.value.id (boxed_transaction w)
     → behind_end (record (state_of p) { tables = with_service (changed p.tables changes) id None }) id dump (Commit changes) kept ≡ broken_to (app_of p) (state_of p) w.value.id (boxed_transaction w) e
 breaks_as p w e id dump changes kept c k d i stands =
     (λ j. committed (record (state_of p) { tables = with_service (changed p.tables (c j)) (i j) None }) (Commit (c j)) (k j) (d j ++ ended_acts (record (state_of p) { tables = with_service (changed p.tables (c j)) (i j) None }) (i j)))
@@ -205,7 +205,7 @@ goes_as app s id x row Back commit kept = refl
 
 -- a point that passes
 pub points_as : (p : MonitorParts) (w : Boxed) (o : Outcome) (r : Option Cause) (id : ServiceId) (outcome : Outcome) (changes : Changes) (row : Option Service) (kept : Settled) (message lterm : Bytes)
-    → IsPassed p.generation p.tables w o r changes row kept → Stands p.generation p.tables w.value.id (boxed_transaction w) → id ≡ w.value.id → outcome ≡ o → message ≡ joined (boxed_transaction w).parts → lterm ≡ (boxed_transaction w).lterm
+    → IsPassed p.generation p.tables w o r changes row kept → IsSoundlyOpen p.generation p.tables w.value.id (boxed_transaction w) → id ≡ w.value.id → outcome ≡ o → message ≡ joined (boxed_transaction w).parts → lterm ≡ (boxed_transaction w).lterm
     → behind_point (app_of p) (record (state_of p) { tables = with_service (changed p.tables changes) id row }) id row outcome message lterm (Commit changes) kept
     ≡ settled_to (app_of p) (state_of p) w.value.id (boxed_transaction w) o r
 points_as p w o r id outcome changes row kept message lterm passed stands i out m l =

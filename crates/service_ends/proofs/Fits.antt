@@ -14,7 +14,7 @@ use Rattle.abstract_monitor.specs.Endings.{broken, durable, is_durable, refusal,
 use Rattle.laws_of_states.specs.CommitLaws.{durable_difference}
 use Rattle.laws_of_states.specs.ShownEndsLaws.{end_made, point_made}
 use Rattle.laws_of_states.specs.EndsLaws.{ends_stay_sound}
-use Rattle.laws_of_states.specs.PointLaws.{AreSound, Stands}
+use Rattle.laws_of_states.specs.PointLaws.{AreSound, IsSoundlyOpen}
 use Rattle.laws_of_states.specs.PointsLaws.{not_refused}
 use Rattle.open_transaction.specs.Transactions.{Boxed, boxed_transaction}
 use Rattle.table_fit.specs.Pages.{FitPool}
@@ -29,6 +29,7 @@ commits : (p : MonitorParts) (c : Changes) (id : ServiceId) (row : Option Servic
 commits p c id row new sound are own tables alone fit = record {
   changes = are;
   own = own;
+  alone = λ lasts. alone lasts ∙ sym tables;
   before = sound.suits.charge;
   between = by (is_durable p.generation id) refl;
   after = with_row;
@@ -49,7 +50,7 @@ commits p c id row new sound are own tables alone fit = record {
 
 -- an abnormal end takes no more pages
 pub end_commits : (p : MonitorParts) (w : Boxed) (c : Changes) (id : ServiceId) → c ≡ durable_difference p.generation p.tables (broken p.generation p.tables w.value.id (boxed_transaction w)) → id ≡ w.value.id
-    → Stands p.generation p.tables w.value.id (boxed_transaction w) → CanCommit p c id None
+    → IsSoundlyOpen p.generation p.tables w.value.id (boxed_transaction w) → CanCommit p c id None
 end_commits p w c id is own stands =
     let g = p.generation in
     let t = p.tables in
@@ -63,7 +64,7 @@ end_commits p w c id is own stands =
 -- a point that needs too many is refused
 pub point_commits : (p : MonitorParts) (w : Boxed) (o : Outcome) (c : Changes) (row : Option Service) (kept : Settled) (id : ServiceId)
     → IsPassed p.generation p.tables w o (refusal p.generation (durable p.generation (synchronised p.generation p.tables w.value.id (boxed_transaction w) o))) c row kept → id ≡ w.value.id
-    → Stands p.generation p.tables w.value.id (boxed_transaction w) → CanCommit p c id row
+    → IsSoundlyOpen p.generation p.tables w.value.id (boxed_transaction w) → CanCommit p c id row
 point_commits p w o c row kept id passed own stands =
     let g = p.generation in
     let t = p.tables in

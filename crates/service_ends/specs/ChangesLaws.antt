@@ -26,7 +26,7 @@ use Rattle.abstract_monitor.specs.Picks.{Classed, class_of, current_by}
 use Rattle.abstract_monitor.specs.Sessions.{in_place}
 use Rattle.abstract_monitor.specs.State.{OpenTransaction, Session, State}
 use Rattle.laws_of_states.specs.EntriesLaws.{found_put, other_put, found_without, other_without}
-use Rattle.step_scheduler.specs.Schedule.{service_in, left_by}
+use Rattle.service_ends.specs.Schedule.{service_in, left_by}
 use Rattle.service_ends.specs.Standing.{Each, HasClass, PlaceHasClass, id_of}
 
 -- ---- lists

@@ -1,5 +1,5 @@
 -- What a turn of the code did, as the definition says it; and when a service may end its transaction.
-use Rattle.std.specs.Prelude.{◌≡◌, ℕ, false, List, [], ◌∷◌, ◌++◌, Option, Some, None}
+use Rattle.std.specs.Prelude.{◌≡◌, ℕ, true, false, List, [], ◌∷◌, ◌++◌, Option, Some, None}
 use Rattle.std.specs.FinMap.{find}
 use Rattle.kdcs_types.specs.declared.key.ServiceId.{ServiceId}
 use Rattle.kdcs_types.specs.Keys.{id_cmp}
@@ -16,13 +16,13 @@ use Rattle.kdcs_types.specs.declared.service.Settled.{Settled}
 use Rattle.abstract_monitor.specs.declared.outcome.Outcome.{Outcome}
 use Rattle.abstract_monitor.specs.declared.outcome.Outcome.TheVariants.{Hold, Stay, Queue, Wait, Point, Follow, Finish, Break, Back}
 use Rattle.abstract_monitor.specs.Bytes.{Bytes}
-use Rattle.abstract_monitor.specs.Endings.{broken, durable, opened_by_row, refusal, row_after, service_change, synchronised, with_service}
+use Rattle.abstract_monitor.specs.Endings.{broken, durable, is_durable, opened_by_row, refusal, row_after, service_change, synchronised, with_service}
 use Rattle.abstract_monitor.specs.Statements.{kept_record}
 use Rattle.abstract_monitor.specs.Sessions.{is_running}
 use Rattle.abstract_monitor.specs.State.{Application, OpenTransaction, State}
 use Rattle.abstract_monitor.specs.Turns.{Turned, after_point, commit_of, committed, dump_acts, ended_acts, message_acts, message_sent, moved_to, queued, told_user, user_acts, with_task}
-use Rattle.laws_of_states.specs.PointLaws.{Stands}
-use Rattle.step_scheduler.specs.Schedule.{IsTask}
+use Rattle.laws_of_states.specs.PointLaws.{IsSoundlyOpen}
+use Rattle.service_ends.specs.Schedule.{IsTask}
 use Rattle.open_transaction.specs.Transactions.{Boxed, boxed_transaction, HasOrder}
 use Rattle.table_fit.specs.Pages.{FitPool}
 use Rattle.service_ends.specs.declared.turned.Turned.{Turned as Did}
@@ -108,6 +108,8 @@ committed_in p changes id row = record (state_of p) { tables = with_service (cha
 pub record CanCommit (p : MonitorParts) (c : Changes) (id : ServiceId) (row : Option Service) : Type 0 where
   pub changes : AreChanges c.items
   pub own : AreChanges (service_change id row ∷ [])
+  -- a row that outlives a stop is among the changes
+  pub alone : is_durable p.generation id ≡ true → changed p.tables c ≡ with_service (changed p.tables c) id row
   pub before : FitPool p.generation p.tables
   pub between : FitPool p.generation (changed p.tables c)
   pub after : FitPool p.generation (with_service (changed p.tables c) id row)
@@ -131,7 +133,7 @@ pub record Serves (p : MonitorParts) (task : ℕ) (id : ServiceId) (x : OpenTran
   pub is_task : IsTask task p.scheduler
   pub alone : is_running (with_task (state_of p) task None) id ≡ false
   pub is_open : find id_cmp id (state_of p).active ≡ Some x
-  pub stands : Stands p.generation p.tables id x
+  pub stands : IsSoundlyOpen p.generation p.tables id x
 
 -- a service that is nowhere can go on from this row
 pub record CanGoOn (p : MonitorParts) (id : ServiceId) (row : Option Service) : Type 0 where
@@ -143,4 +145,4 @@ pub record CanGoOn (p : MonitorParts) (id : ServiceId) (row : Option Service) : 
 pub record IsClosed (p : MonitorParts) (transaction : Boxed) : Type 0 where
   pub closed : find id_cmp transaction.value.id (state_of p).active ≡ None
   pub unplaced : is_running (state_of p) transaction.value.id ≡ false
-  pub stands : Stands p.generation p.tables transaction.value.id (boxed_transaction transaction)
+  pub stands : IsSoundlyOpen p.generation p.tables transaction.value.id (boxed_transaction transaction)

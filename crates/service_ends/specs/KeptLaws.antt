@@ -14,7 +14,7 @@ use Rattle.kd_base.specs.Places.{without}
 use Rattle.monitor_parts.specs.Asked.{freed, other_than}
 use Rattle.open_transaction.specs.declared.async_queue.queue.QueuedJob.{QueuedJob}
 use Rattle.open_transaction.specs.Transactions.{Boxed, boxed_transaction}
-use Rattle.step_scheduler.specs.Schedule.{Schedule, with_ready, without_ready, released, with_place, service_in}
+use Rattle.service_ends.specs.Schedule.{Schedule, with_ready, without_ready, released, with_place, service_in}
 use Rattle.abstract_monitor.specs.Charges.{total_charge}
 use Rattle.abstract_monitor.specs.Commands.{no_place}
 use Rattle.abstract_monitor.specs.Endings.{durable}

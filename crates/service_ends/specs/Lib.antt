@@ -7,3 +7,8 @@ pub mod QueueLaws
 pub mod Standing
 pub mod Whole
 pub mod WholeLaws
+pub mod Schedule
+pub mod Kinds
+pub mod Counted
+pub mod Index
+pub mod Arrivals

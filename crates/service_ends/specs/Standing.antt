@@ -7,7 +7,7 @@ use Rattle.kdcs_types.specs.Keys.{id_cmp}
 use Rattle.application_types.specs.Generation.{Generated}
 use Rattle.monitor_parts.specs.Asked.{holds_area}
 use Rattle.open_transaction.specs.Transactions.{Boxed, boxed_transaction}
-use Rattle.step_scheduler.specs.Schedule.{service_in}
+use Rattle.service_ends.specs.Schedule.{service_in}
 use Rattle.abstract_monitor.specs.Charges.{total_charge}
 use Rattle.abstract_monitor.specs.Endings.{durable}
 use Rattle.abstract_monitor.specs.Locks.{Active, holds}

@@ -1,5 +1,5 @@
 -- When the parts of a monitor can go on: the indexes are those of a state that has its facts, under an application.
-use Rattle.application_check.specs.Fitted.{IsFit}
+use Rattle.application_types.specs.Fitted.{IsFit}
 use Rattle.laws_of_states.specs.Applications.{IsApplication}
 use Rattle.laws_of_states.specs.Keeping.{HasFacts}
 use Rattle.abstract_monitor.specs.State.{Application}

@@ -1,7 +1,8 @@
-//! What follows a statement of a service that ends its unit run: synchronisation points, abnormal ends, the way back to the
-//! last point, and the places where a service goes on; below them the state of a monitor with its indexes (`core_state`).
+//! What follows a statement of a service that ends its unit run: synchronisation points, abnormal ends, the way back to
+//! the last point, and the places where a service goes on; below them the state of a monitor with its indexes
+//! (`core_state`), and which work a free task takes (`step_scheduler`).
 //!
-//! It stands on the state of a monitor with its indexes, on synchronisation points, on the lines, and on the laws of
+//! It stands on sync_points and open_transaction, on the sessions, locks and lines of monitor_parts, and on the laws of
 //! commits. To the layer above, which does turns, its contract says that each end is the abstract monitor's: the state
 //! after it, the acts, and what is kept for a replay; and that every index stays the state's.
 #![tactic(auto)]
@@ -13,12 +14,13 @@ pub mod core_state;
 mod places;
 mod point;
 mod row;
+pub mod step_scheduler;
 mod terminal;
 mod turned;
 
 pub use back::go_back;
 pub use broken::end;
 pub use places::{hold, queue};
-pub use point::settle;
+pub use point::pass_point;
 pub use row::{go_on, header_of_row, set_row};
 pub use turned::Turned;

@@ -2,7 +2,7 @@
 ghost use Rattle.std.specs.{Prelude.{◌≡◌, ◌++◌, ◌∷◌, [], IsSome, Some, None, IfOk, OnOk}, FinMap.{find}};
 ghost use Rattle.kdcs_types.specs.Keys.{id_cmp};
 ghost use Rattle.abstract_monitor.specs.{State.{OpenTransaction as Transaction}, Turns.{message_acts, message_sent, moved_to, with_task}};
-ghost use Rattle.step_scheduler.specs.Schedule.{IsTask};
+ghost use Rattle.service_ends.specs.Schedule.{IsTask};
 ghost use Rattle.service_ends.specs.Ending.{held_to, turned_to, ForOpen};
 ghost use Rattle.service_ends.specs.Standing.{IsIndexed, SameApplication, state_of};
 

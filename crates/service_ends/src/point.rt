@@ -162,7 +162,7 @@ fn settle_transaction(
 
 /// PEND RE, SP, FI or FC: the task is free, the transaction is over, and one commit is made, of the synchronisation point or
 /// of the abnormal end with the cause that refuses it.
-pub fn settle(
+pub fn pass_point(
     parts: &mut MonitorParts,
     alloc: Global,
     task: u16,

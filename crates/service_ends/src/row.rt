@@ -10,6 +10,7 @@ ghost use Rattle.service_ends.specs.Ending.{CanCommit, committed_in};
 use crate::core_state::MonitorParts;
 use kd_base::{Name, OutOfMemory};
 use kdcs_types::{Act, Acts, Change, Changes, Header, Key, Row, RowChanges, Service, ServiceId};
+use service_parts::service_runs::is_durable;
 use std::alloc::Global;
 
 fn service_change(id: &ServiceId, row: &Option<Service>) -> Result<Change, OutOfMemory>
@@ -63,9 +64,11 @@ pub(crate) fn commit(
     ensures state { OnOk result (state_of parts.new ≡ committed_in parts.old changes id.now row.now) }
     ensures acts { OnOk result (acts.new ≡ acts.old ++ Commit changes ∷ []) }
 {
-    // The changes lack the row of a service that no stop leaves. Both are copied: the act keeps them, the service its row.
     parts.change(&changes)?;
-    set_row(parts, alloc, id, row)?;
+    // The changes lack the row of a service that no stop leaves, and have any other.
+    if !is_durable(&parts.generation, *id) {
+        set_row(parts, alloc, id, row)?;
+    }
     acts.push(Act::Commit(changes))?;
     Ok(())
 }

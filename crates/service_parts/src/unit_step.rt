@@ -1,9 +1,9 @@
 //! One statement of a program unit.
 //!
-//! It stands on unit_semantics, whose definitions say what each statement means. `step` does a plain statement, says
+//! It stands on abstract_monitor, whose definitions say what each statement means. `step` does a plain statement, says
 //! which KDCS call comes next, or which cause ends the unit run; `answered` stores a call's answer. Its contract gives
-//! the monitor above it that the state afterwards is just the one that the definitions say, and the same as before where
-//! a call comes next, the run ends or memory ran out.
+//! the monitor above it that the state afterwards is just the one that the definitions say, and the same as before
+//! where a call comes next, the run ends or memory ran out.
 
 mod answer;
 mod area;

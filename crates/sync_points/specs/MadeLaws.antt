@@ -37,7 +37,7 @@ use Rattle.laws_of_states.specs.JobLaws.{areas_same, ends_draw_none, points_numb
 use Rattle.laws_of_states.specs.Transactions.{HasOwnJob}
 use Rattle.laws_of_states.specs.ItemsLaws.{ascends_filter}
 use Rattle.laws_of_states.specs.ListsLaws.{all_append, all_filter, all_imply}
-use Rattle.laws_of_states.specs.PointLaws.{Stands}
+use Rattle.laws_of_states.specs.PointLaws.{IsSoundlyOpen}
 use Rattle.service_parts.specs.Areas.{changes_of}
 use Rattle.sync_points.specs.AscendingLaws.{OwnIsBelow, areas_fit, ends_ascend, ends_durable, fate_fits, new_fits, own_fits, points_ascend, points_durable}
 use Rattle.sync_points.specs.Laws.{EndsChangeTheirOwnRows, PointsChangeWhatWasWritten}
@@ -152,7 +152,7 @@ jobs_made n (j ∷ js) v h from =
 
 -- ---- what is assumed of the transaction
 
-numbers_low : (g : Generated) (t : TableRows) (id : ServiceId) (x : OpenTransaction) → Stands g t id x → IsTrue (list_all (has_number_below t.next_job) t.jobs)
+numbers_low : (g : Generated) (t : TableRows) (id : ServiceId) (x : OpenTransaction) → IsSoundlyOpen g t id x → IsTrue (list_all (has_number_below t.next_job) t.jobs)
 unfolding durable
 numbers_low g t id x s = s.sound.suits.job_numbers
 
@@ -224,7 +224,7 @@ module _ (g : Generated) (t : TableRows) (id : ServiceId) (x : OpenTransaction) 
       ∙ next_same (broken g t id x) (ends_draw_none g t id x).next
 
 -- a synchronisation point
-module _ (g : Generated) (t : TableRows) (id : ServiceId) (x : OpenTransaction) (s : Stands g t id x) where
+module _ (g : Generated) (t : TableRows) (id : ServiceId) (x : OpenTransaction) (s : IsSoundlyOpen g t id x) where
   module _ (o : Outcome) where
     abbrev row : Option Service
     row = row_after g id x o
@@ -328,14 +328,14 @@ ends_change g t id x order =
 -- ---- what the changes are
 
 -- the tables after a synchronisation point are the durable ones with its changes
-pub points_make : (g : Generated) (t : TableRows) (id : ServiceId) (x : OpenTransaction) (o : Outcome) → Stands g t id x → durable g (synchronised g t id x o) ≡ changed (durable g t) (point_changes g t id x o)
+pub points_make : (g : Generated) (t : TableRows) (id : ServiceId) (x : OpenTransaction) (o : Outcome) → IsSoundlyOpen g t id x → durable g (synchronised g t id x o) ≡ changed (durable g t) (point_changes g t id x o)
 points_make g t id x o s =
     let order = durable_sorted g t s.sound.order in
     let after : IsSortedTables (durable g (synchronised g t id x o)) =
     subst (λ (u : TableRows). IsSortedTables u) (point_made g t id x s o) (changed_sorted (durable g t) (point_written g t id x s o) order (point_are g t id x s o)) in
     sym (difference_makes_new (durable g t) (durable g (synchronised g t id x o)) order after) ∙ ap (changed (durable g t)) (points_change g t id x o s)
 
-pub points_are : (g : Generated) (t : TableRows) (id : ServiceId) (x : OpenTransaction) (o : Outcome) → Stands g t id x → AreChanges (point_changes g t id x o).items
+pub points_are : (g : Generated) (t : TableRows) (id : ServiceId) (x : OpenTransaction) (o : Outcome) → IsSoundlyOpen g t id x → AreChanges (point_changes g t id x o).items
 points_are g t id x o s =
     let are = point_are g t id x s o in
     record { ascending = ascends_filter change_key (is_real t) (point_writes g t id x o) are.ascending; fit = all_filter change_fits (is_real t) (point_writes g t id x o) are.fit }
@@ -361,7 +361,7 @@ unfolding durable
 numbers_outlive g t clock next = refl
 
 -- it is that after the synchronisation point
-pub points_after : (g : Generated) (t : TableRows) (id : ServiceId) (x : OpenTransaction) (o : Outcome) → Stands g t id x → durable g (synchronised g t id x o) ≡ durable g (changed t (point_changes g t id x o))
+pub points_after : (g : Generated) (t : TableRows) (id : ServiceId) (x : OpenTransaction) (o : Outcome) → IsSoundlyOpen g t id x → durable g (synchronised g t id x o) ≡ durable g (changed t (point_changes g t id x o))
 points_after g t id x o s =
     let c = point_changes g t id x o in
     points_make g t id x o s

@@ -17,7 +17,7 @@ use Rattle.abstract_monitor.specs.declared.outcome.Outcome.{Outcome}
 use Rattle.abstract_monitor.specs.Charges.{total_charge}
 use Rattle.abstract_monitor.specs.Endings.{durable, refusal, row_after, synchronised, with_areas, with_drafts, with_service, without_own_job}
 use Rattle.abstract_monitor.specs.State.{OpenTransaction}
-use Rattle.laws_of_states.specs.PointLaws.{Stands}
+use Rattle.laws_of_states.specs.PointLaws.{IsSoundlyOpen}
 use Rattle.table_fit.specs.Weights.{made_weight, replaced_weight, weight}
 use Rattle.table_fit.specs.WeightsLaws.{changes_weigh}
 use Rattle.service_parts.specs.Areas.{changes_of}
@@ -80,7 +80,7 @@ module _ (g : Generated) (t : TableRows) (id : ServiceId) (x : OpenTransaction) 
   gssbs_left = gssbs_of (with_areas t x.written) x.began (row_after g id x o) ∙ ap (λ (u : TableRows). u.gssbs) (sym (written_made x.written t))
 
   -- the tests of a refusal, by what the transaction wrote
-  pub refusal_is : Stands g t id x → refusal g (durable g (synchronised g t id x o)) ≡ refused_by g (length (with_changes t (changes_of x.written)).gssbs) (t.next_job + length x.drafts) (total_charge g.limits.blksize (durable g (changed t (point_changes g t id x o))))
+  pub refusal_is : IsSoundlyOpen g t id x → refusal g (durable g (synchronised g t id x o)) ≡ refused_by g (length (with_changes t (changes_of x.written)).gssbs) (t.next_job + length x.drafts) (total_charge g.limits.blksize (durable g (changed t (point_changes g t id x o))))
   unfolding refusal
   refusal_is s i =
       let made = points_make g t id x o s in

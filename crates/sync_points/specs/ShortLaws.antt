@@ -15,7 +15,7 @@ use Rattle.kdcs_types.specs.declared.service.Service.{Service}
 use Rattle.kdcs_types.specs.KeyedLaws.{found_passes}
 use Rattle.kdcs_types.specs.Tables.{TableRows, change_key, service_key, service_of}
 use Rattle.application_types.specs.Generation.{Generated}
-use Rattle.application_check.specs.Soundness.{AreLimits}
+use Rattle.application_types.specs.Soundness.{AreLimits}
 use Rattle.abstract_monitor.specs.declared.draft.Draft.{Draft}
 use Rattle.abstract_monitor.specs.declared.outcome.Outcome.{Outcome}
 use Rattle.abstract_monitor.specs.declared.outcome.Outcome.TheVariants.{Wait, Point, Follow, Finish}
@@ -29,7 +29,7 @@ use Rattle.laws_of_states.specs.JobLaw.{new_jobs}
 use Rattle.laws_of_states.specs.Suits.{fits_content, fits_message, last_fits, service_suits, target_name, target_suits}
 use Rattle.laws_of_states.specs.Transactions.{area_is_declared, draft_fits, due_fits, fits_if_there, written_fits}
 use Rattle.laws_of_states.specs.ListsLaws.{all_append, all_filter, all_imply}
-use Rattle.laws_of_states.specs.PointLaws.{Stands}
+use Rattle.laws_of_states.specs.PointLaws.{IsSoundlyOpen}
 use Rattle.laws_of_states.specs.RowPartsLaws.{row_parts}
 use Rattle.table_fit.specs.SmallLaws.{IsSmall, small_short}
 use Rattle.table_fit.specs.Pages.{is_short, leaves_short, longest}
@@ -75,7 +75,7 @@ areas_short g (w ∷ ws) h =
 small : (s : Service) → IsSmall s → IsTrue (nat_lt (service_length s) longest)
 small s h = lt-ltb (service_length s) longest (small_short s h)
 
-module _ (g : Generated) (limits : AreLimits g.limits) (t : TableRows) (id : ServiceId) (x : OpenTransaction) (s : Stands g t id x) where
+module _ (g : Generated) (limits : AreLimits g.limits) (t : TableRows) (id : ServiceId) (x : OpenTransaction) (s : IsSoundlyOpen g t id x) where
   last_small : (message : Bytes) → length message ≤ g.limits.nb → last_length (Some message) ≤ 32705
   last_small message h = omega (arith, h, limits.nb)
 

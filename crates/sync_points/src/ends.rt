@@ -7,7 +7,7 @@ ghost use Rattle.sync_points.specs.PointChanges.{end_changes};
 
 use crate::kept::kept_record;
 use crate::writes::{real_of, write_fate, write_service};
-use application_check::kdcdef_check::Generation;
+use application_types::generation::Generation;
 use kd_base::OutOfMemory;
 use kdcs_types::{Changes, Ending, RowChanges, Settled, Tables};
 use open_transaction::OpenTransaction;

@@ -1,8 +1,9 @@
 //! Synchronisation points and abnormal ends: what an open transaction changes in the durable tables.
 //!
-//! It stands on open transactions, row_charges and the definitions of the monitor. To the core above, its contract says
-//! that the changes of a point or an end are the difference of the durable tables before and after it, though they are
-//! made of what the transaction wrote, and that a point is refused exactly where the definitions refuse it.
+//! It stands on open_transaction, on table_fit, which knows what changes make of a charge, and on the definitions of
+//! the monitor. To the core above, its contract says that the changes of a point or an end are the difference of the
+//! durable tables before and after it, though they are made of what the transaction wrote, and that a point is refused
+//! exactly where the definitions refuse it.
 #![tactic(auto)]
 
 mod ends;

@@ -2,7 +2,7 @@
 ghost use Rattle.std.specs.Prelude.{◌≡◌, ◌++◌, ◌+◌, ◌≤◌, IfOk, OnOk, length, nat_lt};
 ghost use Rattle.kd_base.specs.Limits.{last_clock, last_next_job};
 ghost use Rattle.abstract_monitor.specs.{Charges.{total_charge}, Endings.{durable, numbered, refusal, row_after, synchronised}};
-ghost use Rattle.laws_of_states.specs.PointLaws.{Stands};
+ghost use Rattle.laws_of_states.specs.PointLaws.{IsSoundlyOpen};
 ghost use Rattle.open_transaction.specs.Transactions.{transaction_of};
 ghost use Rattle.service_parts.specs.Areas.{changes_of};
 ghost use Rattle.sync_points.specs.{Answers.{answer_by, point_by, refused_by}, PointChanges.{changes_with, job_changes}};
@@ -13,7 +13,7 @@ use crate::pool::is_pool_full;
 use crate::row::row_after;
 use crate::writes::{real_of, write_own_job, write_service};
 use abstract_monitor::Outcome;
-use application_check::kdcdef_check::Generation;
+use application_types::generation::Generation;
 use kd_base::{LAST_NEXT_JOB, OutOfMemory};
 use kdcs_types::{Cause, Change, Changes, Ending, Job, Row, RowChanges, Service, Settled, Tables};
 use open_transaction::OpenTransaction;
@@ -90,7 +90,7 @@ fn point_of(
     transaction: &OpenTransaction,
     outcome: Outcome,
 ) -> Result<Point, OutOfMemory>
-    requires stands { Stands generation.now tables.now transaction.now.id (transaction_of transaction.now) }
+    requires stands { IsSoundlyOpen generation.now tables.now transaction.now.id (transaction_of transaction.now) }
     requires charge { charge ≡ total_charge generation.now.limits.blksize (durable generation.now tables.now) }
     ensures { IfOk result (λ point. point ≡ point_by generation.now tables.now transaction.now outcome (refused_by generation.now tables.now transaction.now outcome)) }
 {
@@ -124,7 +124,7 @@ pub fn settle(
     charge: u64,
     outcome: Outcome,
 ) -> Result<SettleAnswer, OutOfMemory>
-    requires stands { Stands generation.now tables.now transaction.value.id (transaction_of transaction.value) }
+    requires stands { IsSoundlyOpen generation.now tables.now transaction.value.id (transaction_of transaction.value) }
     requires charge { charge ≡ total_charge generation.now.limits.blksize (durable generation.now tables.now) }
     ensures { IfOk result (λ answer. answer ≡ answer_by generation.now tables.now transaction outcome (refused_by generation.now tables.now transaction.value outcome)) }
 {

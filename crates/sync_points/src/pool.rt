@@ -4,7 +4,7 @@ ghost use Rattle.kdcs_types.specs.Tables.{AreChanges, changed};
 ghost use Rattle.abstract_monitor.specs.{Charges.{total_charge}, Endings.{durable}};
 ghost use Rattle.table_fit.specs.Pages.{FitPool, leaves_short};
 
-use application_check::kdcdef_check::Generation;
+use application_types::generation::Generation;
 use kdcs_types::{Changes, Tables};
 use table_fit::row_charges::charge_after;
 

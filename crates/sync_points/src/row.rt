@@ -4,7 +4,7 @@ ghost use Rattle.abstract_monitor.specs.Endings.{last_of, lterm_in_row, new_row,
 ghost use Rattle.open_transaction.specs.Transactions.{transaction_of};
 
 use abstract_monitor::Outcome;
-use application_check::kdcdef_check::Generation;
+use application_types::generation::Generation;
 use kd_base::{Bytes, Name, OutOfMemory};
 use kdcs_types::{Areas, Parts, Service, ServiceId};
 use open_transaction::OpenTransaction;

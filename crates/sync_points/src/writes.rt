@@ -4,7 +4,7 @@ ghost use Rattle.sync_points.specs.PointChanges.{fate_changes, is_real, own_job_
 ghost use Rattle.abstract_monitor.specs.{Endings.{job_change}, Redelivery.{fate, has_dead_letter_queue}};
 
 use crate::real::is_real;
-use application_check::kdcdef_check::Generation;
+use application_types::generation::Generation;
 use kd_base::OutOfMemory;
 use kdcs_types::{Change, JobValue, Key, Row, RowChanges, Service, ServiceId, Tables};
 use open_transaction::async_queue::{dead_letter_queue, fate_change, own_job};

@@ -14,7 +14,7 @@ use Rattle.kdcs_types.specs.declared.service.JobValue.{JobValue}
 use Rattle.kdcs_types.specs.declared.service.Service.{Service}
 use Rattle.kdcs_types.specs.Tables.{TableRows}
 use Rattle.application_types.specs.Generation.{Generated, has_tls, has_uls}
-use Rattle.application_check.specs.Soundness.{AreLimits}
+use Rattle.application_types.specs.Soundness.{AreLimits}
 use Rattle.abstract_monitor.specs.Bytes.{Bytes}
 use Rattle.abstract_monitor.specs.Calls.{job_target}
 use Rattle.abstract_monitor.specs.Charges.{charge_of, job_length, last_length, service_length, total_charge}

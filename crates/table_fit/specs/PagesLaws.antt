@@ -27,7 +27,7 @@ use Rattle.kdcs_types.specs.RowLaws.{row_at_with_changes}
 use Rattle.kdcs_types.specs.TableLaws.{row_after}
 use Rattle.kdcs_types.specs.Tables.{AreChanges, IsSortedTables, TableRows, change_at, change_fits, change_key, changed, gssb_key, gssb_row, job_key, job_row, row_at, row_key, service_key, service_row}
 use Rattle.kdcs_types.specs.Tables.{shown_key, shown_row, tls_key, tls_row, uls_key, uls_row, with_change, with_changes}
-use Rattle.application_check.specs.Soundness.{AreLimits}
+use Rattle.application_types.specs.Soundness.{AreLimits}
 use Rattle.application_types.specs.Generation.{Generated}
 use Rattle.abstract_monitor.specs.Bytes.{Bytes}
 use Rattle.abstract_monitor.specs.Charges.{charge_of, job_length, service_length, total_charge}

@@ -1,5 +1,5 @@
 -- Tables that suit a generation have values that are short enough for records.
-use Rattle.application_check.specs.Soundness.{AreLimits}
+use Rattle.application_types.specs.Soundness.{AreLimits}
 use Rattle.application_types.specs.Generation.{Generated}
 use Rattle.kdcs_types.specs.Tables.{TableRows}
 use Rattle.laws_of_states.specs.Suits.{Suits}

@@ -3,7 +3,7 @@ ghost use Rattle.std.specs.{Prelude.{◌≡◌}, List.{list_all}};
 ghost use Rattle.laws_of_states.specs.Suits.{gssb_suits, tls_suits, uls_suits};
 
 use crate::names::{fits_content, is_lterm, is_user};
-use application_check::kdcdef_check::Generation;
+use application_types::generation::Generation;
 use kd_base::{Bytes, Name};
 
 /// The content of the GSSB is not too long.

@@ -5,7 +5,7 @@ ghost use Rattle.abstract_monitor.specs.Charges.{charge_of, job_length, service_
 ghost use Rattle.table_fit.specs.Charging.{AreShort, RowsSuit, has_few_bytes, left_after};
 
 use crate::lengths::{job_length, service_length};
-use application_check::kdcdef_check::Generation;
+use application_types::generation::Generation;
 use kd_base::{Bytes, Name};
 use kd_records::charge;
 use kdcs_types::{Job, JobValue, Service, Tables};

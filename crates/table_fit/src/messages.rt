@@ -5,7 +5,7 @@ ghost use Rattle.laws_of_states.specs.Suits.{job_suits, shown_suits, target_name
 ghost use Rattle.abstract_monitor.specs.{Calls.{job_target}, Outcomes.{goes_first}};
 
 use crate::names::{fits_message, is_lterm, is_user};
-use application_check::kdcdef_check::Generation;
+use application_types::generation::Generation;
 use application_types::kdcdef_types::{CallUse, TacEntry};
 use kd_base::Name;
 use kdcs_types::{Job, JobValue, Target};

@@ -2,7 +2,7 @@
 ghost use Rattle.std.specs.Prelude.{◌≡◌, length, nat_le};
 ghost use Rattle.laws_of_states.specs.Suits.{fits_content, fits_message, has_kind, is_lterm, is_user};
 
-use application_check::kdcdef_check::Generation;
+use application_types::generation::Generation;
 use kd_base::{Bytes, LONGEST_CONTENT, Name};
 
 /// The user is declared.

@@ -1,8 +1,9 @@
 //! How many pages the durable rows of tables take after changes, told by the changes alone.
 //!
-//! It stands on table_fit, service_runs and the definitions of laws_of_steps. To synchronisation points and to the state of
-//! a monitor, its contract says that `charge_after` is the sum over all durable rows after the changes, where the sum before
-//! them is known; it costs what the changes are. The law under it holds of any number that each row adds to a whole.
+//! It stands on what a row is charged, on service_parts, which says what outlives a stop, and on the definitions of
+//! laws_of_states. To synchronisation points and to the state of a monitor, its contract says that `charge_after` is
+//! the sum over all durable rows after the changes, where the sum before them is known. The law under it holds of any
+//! number that each row adds to a whole.
 ghost use Rattle.std.specs.{Prelude.{◌≡◌, IsTrue, length, option_copied, true}, Option.{option_map}, List.{list_all}};
 ghost use Rattle.kd_records.specs.Charge.{IsBlockSize};
 ghost use Rattle.kdcs_types.specs.Tables.{AreChanges, change_key, changed, row_at};
@@ -12,7 +13,7 @@ ghost use Rattle.table_fit.specs.{Pages.{FitPool, is_short, leaves_short, row_ch
 ghost use Rattle.table_fit.specs.Lengths.{value_length};
 
 use crate::{job_length, service_length, value_length};
-use application_check::kdcdef_check::Generation;
+use application_types::generation::Generation;
 use kd_base::Bytes;
 use kd_records::charge;
 use kdcs_types::{Area, Change, Changes, Key, Row, Tables};

@@ -6,7 +6,7 @@ ghost use Rattle.kdcs_types.specs.declared.service.Service.{Service as Row};
 ghost use Rattle.table_fit.specs.Charging.{names_suit};
 
 use crate::names::{fits_content, fits_message, has_kind, is_lterm, is_user};
-use application_check::kdcdef_check::Generation;
+use application_types::generation::Generation;
 use kd_base::{Bytes, Name};
 use kdcs_types::{Service, ServiceId};
 use record_codec::ascend;

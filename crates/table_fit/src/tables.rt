@@ -9,7 +9,7 @@ use crate::areas::{gssbs_suit, tlss_suit, ulss_suit};
 use crate::charges::charges_suit;
 use crate::messages::{all_shown_suit, jobs_suit};
 use crate::services::{services_are_durable, services_suit};
-use application_check::kdcdef_check::Generation;
+use application_types::generation::Generation;
 use kd_base::{LAST_CLOCK, LAST_NEXT_JOB};
 use kdcs_types::{Job, Service, ServiceId, Tables};
 

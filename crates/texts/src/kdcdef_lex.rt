@@ -1,8 +1,8 @@
 //! The statements of a KDCDEF text, as they are written: keyword, keys, words, quoted values and lists.
 //!
-//! It stands on `kd_base` and `texts`. To the reader of typed statements its contract says that the statements it gets
-//! are those that the text spells, that every other text is refused for the fault of its least line, and how many lines
-//! and operands there can be.
+//! It stands on kd_base and on the lines, blanks and quoted bytes of this crate. To the reader of typed statements its
+//! contract says that the statements it gets are those that the text spells, that every other text is refused for the
+//! fault of its least line, and how many lines and operands there can be.
 
 mod fault;
 mod group;

@@ -17,7 +17,7 @@ use Rattle.abstract_monitor.specs.Commands.{ScriptStep, command_of, display, dro
 use Rattle.abstract_monitor.specs.Commands.{user_at}
 use Rattle.abstract_monitor.specs.Lines.{asy_line, no_message_line, prt_line}
 use Rattle.abstract_monitor.specs.State.{Application, Session, State}
-use Rattle.monitor_core.specs.Commanding.{IsSingle}
+use Rattle.monitor_core.specs.Commanding.{IsCoreCommand}
 use Rattle.audit_trail.specs.declared.entry.By.{By}
 use Rattle.audit_trail.specs.declared.entry.By.TheVariants as by
 use Rattle.trail_run.specs.Entries.{changes_among, entry_by, entry_in}
@@ -76,7 +76,7 @@ module _ (app : Application) (s : State) where
   drops pterm None = refl
   drops pterm (Some v) = refl
 
-  pub made_by : (command : Command) → IsSingle command → IsMadeBy (by_for app command) (command_of app s command)
+  pub made_by : (command : Command) → IsCoreCommand command → IsMadeBy (by_for app command) (command_of app s command)
   unfolding command_of
   made_by (Input pterm text) single = uses pterm (lterm_at app pterm) (user_at s pterm) (use_now app s pterm text)
   made_by (Tick ticks) single = ticks_by ticks (s.tables.clock + ticks) (nat_le (s.tables.clock + ticks) last_clock)

@@ -1,7 +1,7 @@
 -- What holds of the trail that a run of a script makes.
 use Rattle.std.specs.Prelude.{◌≡◌, ◌≤◌, ⊤, ℕ, List, length, All}
 use Rattle.kdcs_types.specs.Tables.{TableRows, IsSortedTables}
-use Rattle.application_check.specs.Soundness.{AreLimits, AreNamed}
+use Rattle.application_types.specs.Soundness.{AreLimits, AreNamed}
 use Rattle.abstract_monitor.specs.declared.command.Command.{Command}
 use Rattle.abstract_monitor.specs.Commands.{started}
 use Rattle.abstract_monitor.specs.State.{Application}

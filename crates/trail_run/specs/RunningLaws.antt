@@ -13,12 +13,12 @@ use Rattle.laws_of_runs.specs.ListsLaws.{after_both}
 use Rattle.monitor_core.specs.CoreSteps.{durable_of}
 use Rattle.monitor_core.specs.CoreValue.{CoreValue}
 use Rattle.audit_trail.specs.declared.entry.TrailEntry.{TrailEntry}
-use Rattle.script_run.specs.Sinks.{GoesOn}
+use Rattle.monitor_core.specs.Sinks.{SinkGoesOn}
 use Rattle.trail_run.specs.declared.kept.Kept.{Kept}
 use Rattle.trail_run.specs.Entries.{entry_in, entries_in}
 use Rattle.trail_run.specs.Running.{DidSteps, IsReady}
 
-pub kept_goes : {E : Type 0} → GoesOn {E = E} IsReady (λ _. Unit {0}) (λ before c steps after d. DidSteps c before steps d after) (λ _ _ _ _ _. Unit {0})
+pub kept_goes : {E : Type 0} → SinkGoesOn {E = E} IsReady (λ _. Unit {0}) (λ before c steps after d. DidSteps c before steps d after) (λ _ _ _ _ _. Unit {0})
 kept_goes = record {
   none = λ s c ready. record { application = refl; state = sym (after_none c.state); durable = ready.durable; entries = sym (append-nil s.entries) };
   application = λ s t c d xs did. did.application;

@@ -8,8 +8,8 @@ use abstract_monitor::Command;
 use audit_trail::By;
 use kd_base::OutOfMemory;
 use kdcs_types::Settled;
+use monitor_core::script_run::{Sink, apply_beside, start_beside, turn_beside};
 use monitor_core::{Core, Turned};
-use script_run::{Sink, apply_beside, start_beside, turn_beside};
 use std::alloc::Global;
 
 // What made the commit of a turn: the transaction that it ended.

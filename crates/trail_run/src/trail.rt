@@ -11,7 +11,7 @@ use audit_trail::TrailEntries;
 use kd_base::OutOfMemory;
 use kdcs_types::Tables;
 use monitor_core::Core;
-use script_run::run_script;
+use monitor_core::script_run::run_script;
 use std::alloc::Global;
 
 /// The commits of a script in their order, from a core and its durable tables: each with what made it and what it changes.

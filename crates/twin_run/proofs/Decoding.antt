@@ -1,6 +1,5 @@
 -- What a keeper of two copies has done, at its two files.
 use Rattle.std.proofs.Common.{◌≡◌, ◌⊎◌, ◌≤◌, ℕ, List, ◌++◌, inl, inr, ⊎_elim, refl, sym, subst, ◌∙◌, arith}
-use Rattle.std.specs.Prelude.{Option, Some, None}
 use Rattle.kd_device.specs.Device.{Rose}
 use Rattle.kd_records.specs.Identity.{Identity}
 use Rattle.kd_device.specs.Twin.{Both, half_leaves}
@@ -12,11 +11,11 @@ use Rattle.abstract_monitor.specs.Trace.{bytes_of, tables_after}
 use Rattle.record_codec.specs.Records.{content_of_tables}
 use Rattle.device_acts.specs.Stands.{AreTables}
 use Rattle.kdcfile_copies.specs.Copies.{IsChosen, IsCopyOf}
-use Rattle.kdcfile_double.specs.Twice.{IsInUse, IsKeptTwice, IsOpen, IsTwice, RoseAt, Twice, identity_of}
+use Rattle.kdcfile_double.specs.Twice.{IsInUse, IsKeptTwice, IsOpen, IsTwice, RoseAt, Twice, content_of, identity_of}
 use Rattle.device_acts.specs.Acting.{IsCutOf, IsKeptBy, WithinActs}
 use Rattle.device_run.specs.Keeping.{StandsForRows}
 use Rattle.twin_run.specs.Images.{alone_image, pair_image}
-use Rattle.twin_run.specs.Keeping.{CopiesSince, IsSinceStart, IsSpared, content_kept, failures, file_kept, leaves_kept, lost_kept, one_more, stands_kept, state_kept}
+use Rattle.twin_run.specs.Keeping.{CopiesSince, IsSinceStart, IsSpared, failures, file_kept, leaves_kept, one_more, stands_kept, state_kept}
 use Rattle.twin_run.specs.KeepingLaws.{all_gone, alone_decodes, kept_both, kept_images, pair_decodes}
 use Rattle.twin_run.specs.Parts.{DidTwice, IsCutOfTables, PartTwice}
 use Rattle.twin_run.specs.Running.{CountsAs, FailsTwice, FrameTwice, IsCopyOfTables}
@@ -35,20 +34,20 @@ module _ (s0 s : Twice) (b0 a : Both) (la : ℕ → List ℕ → List ℕ → Li
     newly_lost = λ half is. inl is;
   }
 
-  here : IsSinceStart s a a i (Some s)
-  here = record { faults = λ half. omega arith; told = refl; names = λ half told. refl; copies = copies_here }
+  here : IsSinceStart s a a i s
+  here = record { faults = λ half. omega arith; told = refl; names = λ half told. refl; copies = λ is. copies_here }
 
-  pub since_here : IsSinceStart s0 b0 a i (Some s)
-  since_here = subst (λ (z : Twice). IsSinceStart z b0 a i (Some s)) (sym copies) (subst (λ (z : Both). IsSinceStart s z a i (Some s)) (sym begins) here)
+  pub since_here : IsSinceStart s0 b0 a i s
+  since_here = subst (λ (z : Twice). IsSinceStart z b0 a i s) (sym copies) (subst (λ (z : Both). IsSinceStart s z a i s) (sym begins) here)
 
-  pub kept_here : IsTwice s → IsKeptTwice s a la → IsKeptBy (file_kept i (Some s) a) (state_kept s0 b0 a) (leaves_kept s0 b0 a la)
-  kept_here twice kept = kept_images i s0 b0 a s la twice since_here.copies kept
+  pub kept_here : IsTwice s → IsKeptTwice s a la → IsKeptBy (file_kept i s a) (state_kept s0 b0 a) (leaves_kept s0 b0 a la)
+  kept_here twice kept = kept_images i s0 b0 a s la twice (since_here.copies is_open) kept
 
 -- ---- what was done
 
 -- what became of the twin and of its copies
-pub frame_kept : (s0 : Twice) (b0 a b : Both) (i : Identity) (o : Option Twice) → b0 ≡ a → IsSinceStart s0 b0 b i o → a.line_faults ≤ b.line_faults → a.moment ≤ b.moment → FrameTwice a b
-frame_kept s0 b0 a b i o begins since line moment =
+pub frame_kept : (s0 : Twice) (b0 a b : Both) (i : Identity) (s : Twice) → b0 ≡ a → IsSinceStart s0 b0 b i s → a.line_faults ≤ b.line_faults → a.moment ≤ b.moment → FrameTwice a b
+frame_kept s0 b0 a b i s begins since line moment =
     subst (λ (z : Both). z.line_faults ≤ b.line_faults → z.moment ≤ b.moment → FrameTwice z b) begins
     (λ line moment. record {
       told = since.told;
@@ -97,9 +96,9 @@ module _ (s0 s : Twice) (b0 a b : Both) (la lb : ℕ → List ℕ → List ℕ �
     half_cut half c out h = record { since = h.since; more = h.more; done = h.done; left = h.left; whole = h.whole; file = copy_of i (tables_after t h.done) half c h.file; bytes = h.bytes }
 
     -- whatever became of the acts
-    pub part_of_acts : (own : Identity) (o : Option Twice) → IsSinceStart s0 b0 b own o → PartTwice (one_more i) s t acts a b la lb
-    part_of_acts own o since = record {
-      frame = frame_kept s0 b0 a b own o begins since within.frame.line_faults within.frame.moment;
+    pub part_of_acts : (own : Identity) (z : Twice) → IsSinceStart s0 b0 b own z → PartTwice (one_more i) s t acts a b la lb
+    part_of_acts own z since = record {
+      frame = frame_kept s0 b0 a b own z begins since within.frame.line_faults within.frame.moment;
       pairs = λ told.
           let h = within.any_moment told in
           record {
@@ -116,17 +115,16 @@ module _ (s0 s : Twice) (b0 a b : Both) (la lb : ℕ → List ℕ → List ℕ �
     }
 
   -- all acts were done
-  pub did_acts : (i own : Identity) (t : TableRows) (acts : List Act) (o : Option Twice) → IsSinceStart s0 b0 b own o → one_more own ≡ i → AreTables (tables_after t acts) → content_kept o ≡ content_of_tables (tables_after t acts) → b.sent ≡ a.sent ++ bytes_of acts
-      → IsKeptBy (file_kept own o b) (state_kept s0 b0 b) (leaves_kept s0 b0 b lb) → lb b.moment b.first.holds b.second.holds b.sent → DidTwice i s t acts (lost_kept o) a b lb
-  did_acts i own t acts None since same tables content sent rest now = absurd (rest (pair_image b.first.holds b.second.holds) (left_pair b lb b.moment b.first.holds b.second.holds b.sent now))
-  did_acts i own t acts (Some z) since same tables content sent rest now =
+  pub did_acts : (i own : Identity) (t : TableRows) (acts : List Act) (z : Twice) → IsSinceStart s0 b0 b own z → one_more own ≡ i → AreTables (tables_after t acts) → content_of z ≡ content_of_tables (tables_after t acts) → b.sent ≡ a.sent ++ bytes_of acts
+      → IsKeptBy (file_kept own z b) (state_kept s0 b0 b) (leaves_kept s0 b0 b lb) → lb b.moment b.first.holds b.second.holds b.sent → DidTwice i s t acts z.lost a b lb
+  did_acts i own t acts z since same tables content sent rest now =
       let file = rest (pair_image b.first.holds b.second.holds) (left_pair b lb b.moment b.first.holds b.second.holds b.sent now) in
       record {
         now = z;
         lost_is = refl;
         twice = file.0;
         own = own;
-        since = subst (λ (x : Twice). CopiesSince x a b own z) copies (subst (λ (x : Both). CopiesSince s0 x b own z) begins since.copies);
+        since = subst (λ (x : Twice). CopiesSince x a b own z) copies (subst (λ (x : Both). CopiesSince s0 x b own z) begins (since.copies file.1));
         keeps = record { identity_is = file.2 ∙ same; tables = tables; content = content };
         kept = kept_both own s0 b0 b z lb rest;
         sent = sent;

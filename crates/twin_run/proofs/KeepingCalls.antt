@@ -18,9 +18,9 @@ use Rattle.device_acts.specs.Said.{LeavesFront}
 use Rattle.kdcfile_double.specs.Opening.{Unchanged}
 use Rattle.kdcfile_double.specs.Twice.{FineTwice, FrameBoth, IsChosenOldOrNew, IsCommitting, IsInUse, IsKeptTwice, IsOldOrNew, IsOpen, IsTwice}
 use Rattle.kdcfile_double.specs.Twice.{LeavesBoth, LeavesCommitted, LosesBy, RoseAt, SameFaultsAt}
-use Rattle.kdcfile_double.specs.Twice.{SideRests, Twice, content_of, copy_at, identity_of, sequence_of}
+use Rattle.kdcfile_double.specs.Twice.{SideRests, Twice, content_of, copy_at, given_up, identity_of, sequence_of}
 use Rattle.twin_run.specs.Images.{OfImage}
-use Rattle.twin_run.specs.Keeping.{CopiesSince, CopiesSinceIf, IsSinceStart, IsSpared, RestBoth, RestsAlone, StaysFine, failures, file_kept, leaves_kept, one_more, stands_kept, state_kept}
+use Rattle.twin_run.specs.Keeping.{CopiesSince, IsSinceStart, IsSpared, RestBoth, RestsAlone, StaysFine, failures, file_kept, leaves_kept, one_more, stands_kept, state_kept}
 use Rattle.twin_run.specs.KeepingLaws.{all_failed, failures_rise, fine_since, image_weaker, of_image, rest_stands, since_fine, spared_before, spared_same, spared_uses}
 
 -- ---- what no call lowers
@@ -39,8 +39,8 @@ module _ (s0 : Twice) (b0 a b : Both) where
   pub frame_kept : b.told ≡ a.told → ((half : Half) → (disk_of half a).disk_faults ≤ (disk_of half b).disk_faults) → a.line_faults ≤ b.line_faults → a.moment ≤ b.moment → Frame (state_kept s0 b0 a) (state_kept s0 b0 b)
   frame_kept told faults line later = record { told = told; disk_faults = failures_rise s0 b0 a b faults; line_faults = line; moment = later }
 
-  pub since_then : (i j : Identity) (o o' : Option Twice) → b.told ≡ a.told → ((half : Half) → (disk_of half a).disk_faults ≤ (disk_of half b).disk_faults) → ((half : Half) → IsTrue a.told → (disk_of half b).names ≡ (disk_of half a).names) → IsSinceStart s0 b0 a i o → CopiesSinceIf s0 b0 b j o' → IsSinceStart s0 b0 b j o'
-  since_then i j o o' told faults names h copies = record {
+  pub since_then : (i j : Identity) (s s' : Twice) → b.told ≡ a.told → ((half : Half) → (disk_of half a).disk_faults ≤ (disk_of half b).disk_faults) → ((half : Half) → IsTrue a.told → (disk_of half b).names ≡ (disk_of half a).names) → IsSinceStart s0 b0 a i s → (IsOpen s' → CopiesSince s0 b0 b j s') → IsSinceStart s0 b0 b j s'
+  since_then i j s s' told faults names h copies = record {
     told = told ∙ h.told;
     names = λ half was. names half (subst IsTrue (sym h.told) was) ∙ h.names half was;
     faults = λ half. let before = h.faults half in let more = faults half in omega (arith, before, more);
@@ -67,7 +67,15 @@ module _ (s0 : Twice) (b0 a b : Both) (la lb : ℕ → List ℕ → List ℕ →
 none_some : {A : Type 0} {x : A} → None ≡ Some x → ⊥
 none_some e = absurd cc
 
-module _ (s0 : Twice) (b0 a b : Both) (i : Identity) (s : Twice) (since : IsSinceStart s0 b0 a i (Some s)) (frame : FrameBoth a b) where
+-- of copies that were given up none is in use
+pub none_in_use : (s : Twice) → IsOpen (given_up s) → ⊥
+none_in_use s (inl used) = none_some used.1
+none_in_use s (inr used) = none_some used.1
+
+module _ (s0 : Twice) (b0 a b : Both) (i : Identity) (s : Twice) (since : IsSinceStart s0 b0 a i s) (is_open : IsOpen s) (frame : FrameBoth a b) where
+  copies : CopiesSince s0 b0 a i s
+  copies = since.copies is_open
+
   -- a count that had risen since the start, and one that rose now
   later : (half : Half) → RoseAt half b0 a → RoseAt half b0 b
   later half rose = let more = faults_both a b frame half in omega (arith, rose, more)
@@ -77,20 +85,20 @@ module _ (s0 : Twice) (b0 a b : Both) (i : Identity) (s : Twice) (since : IsSinc
 
   -- a half on which no call failed was in use
   uses : (half : Half) → IsSpared half s0 b0 b → IsInUse half s
-  uses half spared = spared_uses half s0 b0 a i s since.copies (spared_before half s0 b0 a b (faults_both a b frame half) spared)
+  uses half spared = spared_uses half s0 b0 a i s copies (spared_before half s0 b0 a b (faults_both a b frame half) spared)
 
   pub failed_since : ((half : Half) → IsInUse half s → RoseAt half a b) → Rose (failures s0 b0 a) (failures s0 b0 b)
-  failed_since failed = all_failed s0 b0 a b (λ half u. ⊎_elim (λ used. now half (failed half used)) (λ gone. later half gone.1) (since.copies.unused half u))
+  failed_since failed = all_failed s0 b0 a b (λ half u. ⊎_elim (λ used. now half (failed half used)) (λ gone. later half gone.1) (copies.unused half u))
 
   -- what was fine is so after calls that did not fail as a whole
   pub fine_then : FineTwice s a b → StaysFine s0 b0 (state_kept s0 b0 a) (state_kept s0 b0 b)
   fine_then h was =
       let before = since_fine s0 b0 a was in
-      let one = since.copies.used h.spared.0 h.spared.1 in
+      let one = copies.used h.spared.0 h.spared.1 in
       fine_since s0 b0 b
       (record {
         spared = (h.spared.0, one.0, h.spared.2 ∙ one.1);
-        line = ⊎_elim (λ same. ⊎_elim (λ too. inl (too ∙ same)) (λ rose. inr (rose.0, (since.copies.used rose.0 rose.1).0, now rose.0 rose.2)) h.line) (λ rose. inr (rose.0, rose.1, later rose.0 rose.2)) before.line;
+        line = ⊎_elim (λ same. ⊎_elim (λ too. inl (too ∙ same)) (λ rose. inr (rose.0, (copies.used rose.0 rose.1).0, now rose.0 rose.2)) h.line) (λ rose. inr (rose.0, rose.1, later rose.0 rose.2)) before.line;
       })
 
   module _ (twice : IsTwice s) (s' : Twice) (loses : LosesBy s s' a b) (stays : (half : Half) → IsInUse half s → IsInUse half s' ⊎ (s'.lost ≡ Some half)) (no_other : (half : Half) → IsInUse half s' → IsInUse half s) (fine : (half : Half) → IsInUse half s' → SameFaultsAt half a b) where
@@ -101,11 +109,11 @@ module _ (s0 : Twice) (b0 a b : Both) (i : Identity) (s : Twice) (since : IsSinc
     copies_then j is made mended = record {
       is_open = is;
       identity = made;
-      mended = mended ∙ since.copies.mended;
-      used = λ half u. let before = since.copies.used half (no_other half u) in (before.0, fine half u ∙ before.1);
-      unused = λ half u. ⊎_elim (λ used. ⊎_elim (λ still. inl still) (λ lost. inr (lost, rose_lost half used lost)) (stays half used)) (λ gone. inr (loses.stays half gone.0, later half gone.1)) (since.copies.unused half u);
-      lost_stays = λ half lost. loses.stays half (since.copies.lost_stays half lost);
-      newly_lost = λ half lost. ⊎_elim (λ was. ⊎_elim (λ first. inl first) (λ rose. inr (later half rose)) (since.copies.newly_lost half was)) (λ rose. inr (now half rose)) (loses.newly half lost);
+      mended = mended ∙ copies.mended;
+      used = λ half u. let before = copies.used half (no_other half u) in (before.0, fine half u ∙ before.1);
+      unused = λ half u. ⊎_elim (λ used. ⊎_elim (λ still. inl still) (λ lost. inr (lost, rose_lost half used lost)) (stays half used)) (λ gone. inr (loses.stays half gone.0, later half gone.1)) (copies.unused half u);
+      lost_stays = λ half lost. loses.stays half (copies.lost_stays half lost);
+      newly_lost = λ half lost. ⊎_elim (λ was. ⊎_elim (λ first. inl first) (λ rose. inr (later half rose)) (copies.newly_lost half was)) (λ rose. inr (now half rose)) (loses.newly half lost);
     }
 
   module _ (la lb : ℕ → List ℕ → List ℕ → List ℕ → Type 0) where
@@ -117,14 +125,14 @@ module _ (s0 : Twice) (b0 a b : Both) (i : Identity) (s : Twice) (since : IsSinc
       both_old : (c d : List ℕ) → IsChosenOldOrNew (identity_of s) (sequence_of s) (content_of s) (patched (content_of s) patch) c d → ((n : ℕ) × IsChosen (one_more i) n (content_of s) c d) ⊎ ((n : ℕ) × IsChosen (one_more i) n (patched (content_of s) patch) c d)
       both_old c d h =
           ⊎_elim
-          (λ was. inl (sequence_of s, subst (λ (j : Identity). IsChosen j (sequence_of s) (content_of s) c d) since.copies.identity was))
-          (λ new. inr (sequence_of s + 1, subst (λ (j : Identity). IsChosen j (sequence_of s + 1) (patched (content_of s) patch) c d) since.copies.identity new)) h
+          (λ was. inl (sequence_of s, subst (λ (j : Identity). IsChosen j (sequence_of s) (content_of s) c d) copies.identity was))
+          (λ new. inr (sequence_of s + 1, subst (λ (j : Identity). IsChosen j (sequence_of s + 1) (patched (content_of s) patch) c d) copies.identity new)) h
 
       alone_old : (c : List ℕ) → IsOldOrNew (identity_of s) (sequence_of s) (content_of s) (patched (content_of s) patch) c → ((n : ℕ) × IsCopyOf (one_more i) n (content_of s) c) ⊎ ((n : ℕ) × IsCopyOf (one_more i) n (patched (content_of s) patch) c)
       alone_old c h =
           ⊎_elim
-          (λ was. inl (sequence_of s, subst (λ (j : Identity). IsCopyOf j (sequence_of s) (content_of s) c) since.copies.identity was))
-          (λ new. inr (sequence_of s + 1, subst (λ (j : Identity). IsCopyOf j (sequence_of s + 1) (patched (content_of s) patch) c) since.copies.identity new)) h
+          (λ was. inl (sequence_of s, subst (λ (j : Identity). IsCopyOf j (sequence_of s) (content_of s) c) copies.identity was))
+          (λ new. inr (sequence_of s + 1, subst (λ (j : Identity). IsCopyOf j (sequence_of s + 1) (patched (content_of s) patch) c) copies.identity new)) h
 
       same : (half : Half) → IsSpared half s0 b0 b → SameFaultsAt half a b
       same half spared = spared_same half s0 b0 a b (since.faults half) (faults_both a b frame half) spared
@@ -146,7 +154,7 @@ module _ (s0 : Twice) (b0 a b : Both) (i : Identity) (s : Twice) (since : IsSinc
           (λ n bytes c out spared p. (p.0, stands (suc (suc n) ∷ bytes) (record { used = uses Second spared; rests = kept.second_rests p.2.0 bytes p.2.1 })))
         where
           stands : (image : List ℕ) → OfImage (RestBoth s a) (λ half c. RestsAlone half s a c) image → stands_kept i (content_of s) image
-          stands = rest_stands s a twice i since.copies.identity since.copies.is_open
+          stands = rest_stands s a twice i copies.identity is_open
 
 -- ---- a line that is sent
 
@@ -157,23 +165,22 @@ module _ (s0 : Twice) (b0 a b : Both) (i : Identity) (disks : (half : Half) → 
   pub said_rise : (half : Half) → (disk_of half a).disk_faults ≤ (disk_of half b).disk_faults
   said_rise half = let same = said_faults half in omega (arith, same)
 
-  said_copies : (o : Option Twice) → CopiesSinceIf s0 b0 a i o → CopiesSinceIf s0 b0 b i o
-  said_copies None h = tt
-  said_copies (Some s) h = record {
-    is_open = h.is_open;
-    identity = h.identity;
-    mended = h.mended;
-    used = λ half u. let before = h.used half u in (before.0, said_faults half ∙ before.1);
-    unused = λ half u. ⊎_elim (λ used. inl used) (λ gone. inr (gone.0, rose half gone.1)) (h.unused half u);
-    lost_stays = h.lost_stays;
-    newly_lost = λ half lost. ⊎_elim (λ first. inl first) (λ r. inr (rose half r)) (h.newly_lost half lost);
-  }
+  pub said_since : (s : Twice) → b.told ≡ a.told → IsSinceStart s0 b0 a i s → IsSinceStart s0 b0 b i s
+  said_since s told h = since_then s0 b0 a b i i s s told said_rise (λ half was. ap (λ (d : Disk). d.names) (disks half)) h (λ is. said_copies (h.copies is))
     where
       rose : (half : Half) → RoseAt half b0 a → RoseAt half b0 b
       rose half r = let same = said_faults half in omega (arith, r, same)
 
-  pub said_since : (o : Option Twice) → b.told ≡ a.told → IsSinceStart s0 b0 a i o → IsSinceStart s0 b0 b i o
-  said_since o told h = since_then s0 b0 a b i i o o told said_rise (λ half was. ap (λ (d : Disk). d.names) (disks half)) h (said_copies o h.copies)
+      said_copies : CopiesSince s0 b0 a i s → CopiesSince s0 b0 b i s
+      said_copies h = record {
+        is_open = h.is_open;
+        identity = h.identity;
+        mended = h.mended;
+        used = λ half u. let before = h.used half u in (before.0, said_faults half ∙ before.1);
+        unused = λ half u. ⊎_elim (λ used. inl used) (λ gone. inr (gone.0, rose half gone.1)) (h.unused half u);
+        lost_stays = h.lost_stays;
+        newly_lost = λ half lost. ⊎_elim (λ first. inl first) (λ r. inr (rose half r)) (h.newly_lost half lost);
+      }
 
   pub said_fine : b.line_faults ≡ a.line_faults → StaysFine s0 b0 (state_kept s0 b0 a) (state_kept s0 b0 b)
   said_fine line was =
@@ -184,9 +191,8 @@ module _ (s0 : Twice) (b0 a b : Both) (i : Identity) (disks : (half : Half) → 
         line = ⊎_elim (λ same. inl (line ∙ same)) (λ rose. inr (rose.0, rose.1, subst (λ (n : ℕ). Rose (disk_of rose.0 b0).disk_faults n) (sym (said_faults rose.0)) rose.2)) before.line;
       })
 
-  said_file : (o : Option Twice) (image : List ℕ) → file_kept i o a image → file_kept i o b image
-  said_file None image file = absurd file
-  said_file (Some s) image file = (
+  said_file : (s : Twice) (image : List ℕ) → file_kept i s a image → file_kept i s b image
+  said_file s image file = (
     file.0,
     file.1,
     file.2,
@@ -199,9 +205,9 @@ module _ (s0 : Twice) (b0 a b : Both) (i : Identity) (disks : (half : Half) → 
       side half o c = subst (λ (d : Disk). SideRests half (identity_of s) (sequence_of s) (content_of s) o d.holds c) (sym (disks half))
 
   module _ (la lb : ℕ → List ℕ → List ℕ → List ℕ → Type 0) where
-    pub said_kept : (o : Option Twice) → LeavesSamePairs a b la lb → IsKeptBy (file_kept i o a) (state_kept s0 b0 a) (leaves_kept s0 b0 a la) → IsKeptBy (file_kept i o b) (state_kept s0 b0 b) (leaves_kept s0 b0 b lb)
-    said_kept o stop kept image left =
-        said_file o image
+    pub said_kept : (s : Twice) → LeavesSamePairs a b la lb → IsKeptBy (file_kept i s a) (state_kept s0 b0 a) (leaves_kept s0 b0 a la) → IsKeptBy (file_kept i s b) (state_kept s0 b0 b) (leaves_kept s0 b0 b lb)
+    said_kept s stop kept image left =
+        said_file s image
         (kept image
         (image_weaker (λ c d. lb b.moment c d b.sent) (λ half c. IsSpared half s0 b0 b × half_leaves half lb b.moment c b.sent) (λ c d. la a.moment c d a.sent) (λ half c. IsSpared half s0 b0 a × half_leaves half la a.moment c a.sent)
         stop (λ half c h. (spared_before half s0 b0 a b (said_rise half) h.0, said_stays half a b la lb stop c h.1)) image left))

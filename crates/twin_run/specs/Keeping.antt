@@ -6,16 +6,15 @@ use Rattle.kd_records.specs.declared.content.Content.{Content}
 use Rattle.kd_device.specs.Twin.{Both, disk_of, half_leaves}
 use Rattle.kd_device.specs.declared.half.Half.{Half}
 use Rattle.kd_device.specs.declared.half.Half.TheVariants.{First, Second}
-use Rattle.kdcfile_layout.specs.Layout.{fresh}
 use Rattle.kdcfile_copies.specs.declared.answer.LoadedCopy.{LoadedCopy}
 use Rattle.kdcfile_copies.specs.Copies.{IsChosen, IsCopyOf}
 use Rattle.kdcfile_double.specs.Twice.{IsInUse, IsOpen, IsTwice, RoseAt, SameFaultsAt, SideRests, Twice, content_of, copy_at, identity_of, sequence_of}
 use Rattle.twin_run.specs.Images.{OfImage}
 
--- the twin, the copies that are not given up, and what the generation's own file would be made with
-pub record Kept (T : Type 0) : Type 0 where
+-- the twin, the copies, of which none is in use once they were given up, and what the generation's own file would be made with
+pub record TwinKept (T : Type 0) : Type 0 where
   pub twin : T
-  pub store : Option Twice
+  pub store : Twice
   pub identity : Identity
 
 -- what both files are made with: there is one page more, for the record of the sequence
@@ -32,16 +31,12 @@ pub record CopiesSince (s0 : Twice) (b0 b : Both) (i : Identity) (s : Twice) : T
   pub lost_stays : (half : Half) → s0.lost ≡ Some half → s.lost ≡ Some half
   pub newly_lost : (half : Half) → s.lost ≡ Some half → (s0.lost ≡ Some half) ⊎ RoseAt half b0 b
 
-abbrev pub CopiesSinceIf : Twice → Both → Both → Identity → Option Twice → Type 0
-CopiesSinceIf s0 b0 b i None = Unit {0}
-CopiesSinceIf s0 b0 b i (Some s) = CopiesSince s0 b0 b i s
-
--- the twin tells what it told, its disks have the names that they had, no count of faults fell, and so have the copies
-pub record IsSinceStart (s0 : Twice) (b0 b : Both) (i : Identity) (store : Option Twice) : Type 0 where
+-- the twin tells what it told, its disks have the names that they had, no count of faults fell, and so it is with the copies unless they were given up
+pub record IsSinceStart (s0 : Twice) (b0 b : Both) (i : Identity) (s : Twice) : Type 0 where
   pub told : b.told ≡ b0.told
   pub names : (half : Half) → IsTrue b0.told → (disk_of half b).names ≡ (disk_of half b0).names
   pub faults : (half : Half) → (disk_of half b0).disk_faults ≤ (disk_of half b).disk_faults
-  pub copies : CopiesSinceIf s0 b0 b i store
+  pub copies : IsOpen s → CopiesSince s0 b0 b i s
 
 -- ---- as the state of a device
 
@@ -95,10 +90,6 @@ leaves_kept s0 b0 b leaves t image out = OfImage (λ c d. leaves t c d out) (λ 
 
 -- ---- as a content in files
 
-abbrev pub content_kept : Option Twice → Content
-content_kept None = fresh
-content_kept (Some s) = content_of s
-
 -- a half in use has its copy
 pub record RestsAlone (half : Half) (s : Twice) (b : Both) (c : List ℕ) : Type 0 where
   pub used : IsInUse half s
@@ -108,16 +99,10 @@ pub record RestBoth (s : Twice) (b : Both) (c d : List ℕ) : Type 0 where
   pub first_rests : SideRests First (identity_of s) (sequence_of s) (content_of s) s.first b.first.holds c
   pub second_rests : SideRests Second (identity_of s) (sequence_of s) (content_of s) s.second b.second.holds d
 
--- the images of the files of copies that are not given up
-abbrev pub file_kept : (i : Identity) → Option Twice → Both → List ℕ → Type 0
-file_kept i None b image = ⊥
-file_kept i (Some s) b image = IsTwice s × IsOpen s × (identity_of s ≡ one_more i) × OfImage (RestBoth s b) (λ half c. RestsAlone half s b c) image
+-- the images of the files of copies in use
+abbrev pub file_kept : (i : Identity) → Twice → Both → List ℕ → Type 0
+file_kept i s b image = IsTwice s × IsOpen s × (identity_of s ≡ one_more i) × OfImage (RestBoth s b) (λ half c. RestsAlone half s b c) image
 
 -- the copy that counts keeps the content, or a half by itself does
 abbrev pub stands_kept : Identity → Content → List ℕ → Type 0
 stands_kept i x image = OfImage (λ c d. (n : ℕ) × IsChosen (one_more i) n x c d) (λ half c. (n : ℕ) × IsCopyOf (one_more i) n x c) image
-
--- which half of them is used no more, since a call on it failed
-abbrev pub lost_kept : Option Twice → Option Half
-lost_kept None = None
-lost_kept (Some s) = s.lost

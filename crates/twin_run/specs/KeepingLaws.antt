@@ -14,13 +14,13 @@ use Rattle.kd_device.specs.declared.half.Half.{Half}
 use Rattle.kd_device.specs.declared.half.Half.TheVariants.{First, Second}
 use Rattle.kdcfile_copies.specs.Copies.{IsChosen, IsCopyOf}
 use Rattle.kdcfile_copies.specs.declared.answer.LoadedCopy.{LoadedCopy}
-use Rattle.device_acts.specs.Acting.{GoesOn, IsKeptBy}
+use Rattle.device_acts.specs.Acting.{JoinsParts, IsKeptBy}
 use Rattle.kdcfile_double.specs.ChosenLaws.{IsSomeOf, both_chosen, kept_copy, second_chosen}
 use Rattle.kdcfile_double.specs.CommitLaws.{open_some}
 use Rattle.kdcfile_double.specs.MendLaws.{kept_at}
 use Rattle.kdcfile_double.specs.Twice.{FineTwice, IsInUse, IsKeptTwice, IsOpen, IsTwice, KeepsIf, RoseAt, SameFaultsAt, SideRests, Twice, content_of, identity_of, sequence_of}
 use Rattle.twin_run.specs.Images.{OfImage, alone_image, pair_image}
-use Rattle.twin_run.specs.Keeping.{CopiesSince, IsFineSince, IsSpared, RestBoth, RestsAlone, StaysFine, content_kept, failures, faults_kept, file_kept}
+use Rattle.twin_run.specs.Keeping.{CopiesSince, IsFineSince, IsSpared, RestBoth, RestsAlone, StaysFine, failures, faults_kept, file_kept}
 use Rattle.twin_run.specs.Keeping.{is_gone, leaves_kept, one_more, stands_kept, state_kept}
 
 -- ---- images
@@ -84,13 +84,12 @@ module _ (s : Twice) (b : Both) (twice : IsTwice s) where
         (λ c d h. (sequence_of s, subst (λ (j : Identity). IsChosen j (sequence_of s) (content_of s) c d) made (pair_stands is c d h)))
         (λ half c h. (sequence_of s, subst (λ (j : Identity). IsCopyOf j (sequence_of s) (content_of s) c) made (alone_stands half c h)))
 
-pub chosen_stands : (i : Identity) (store : Option Twice) (b : Both) (image : List ℕ) → file_kept i store b image → stands_kept i (content_kept store) image
-chosen_stands i None b image file = absurd file
-chosen_stands i (Some s) b image file = rest_stands s b file.0 i file.2 file.1 image file.3
+pub chosen_stands : (i : Identity) (s : Twice) (b : Both) (image : List ℕ) → file_kept i s b image → stands_kept i (content_of s) image
+chosen_stands i s b image file = rest_stands s b file.0 i file.2 file.1 image file.3
 
 -- ---- the laws of what keeps a content
 
-pub goes_fine : (s0 : Twice) (b0 : Both) → GoesOn (StaysFine s0 b0)
+pub goes_fine : (s0 : Twice) (b0 : Both) → JoinsParts (StaysFine s0 b0)
 goes_fine s0 b0 = record { none = λ a fine. fine; after = λ a b d h k fine. k (h fine) }
 
 module _ (s0 : Twice) (b0 b : Both) where
@@ -201,7 +200,7 @@ spared_uses half s0 b0 b i s since h = ⊎_elim (λ used. used) (λ gone. absurd
 -- ---- the images of copies, and what a stop leaves of both
 
 module _ (i : Identity) (s0 : Twice) (b0 b : Both) (s : Twice) (leaves : ℕ → List ℕ → List ℕ → List ℕ → Type 0) where
-  pub kept_both : IsKeptBy (file_kept i (Some s) b) (state_kept s0 b0 b) (leaves_kept s0 b0 b leaves) → IsKeptTwice s b leaves
+  pub kept_both : IsKeptBy (file_kept i s b) (state_kept s0 b0 b) (leaves_kept s0 b0 b leaves) → IsKeptTwice s b leaves
   kept_both kept = record { first_rests = λ c d left. (rests c d left).first_rests; second_rests = λ c d left. (rests c d left).second_rests }
     where
       rests : (c d : List ℕ) → leaves b.moment c d b.sent → RestBoth s b c d
@@ -209,7 +208,7 @@ module _ (i : Identity) (s0 : Twice) (b0 b : Both) (s : Twice) (leaves : ℕ →
           (pair_decodes (RestBoth s b) (λ half e. RestsAlone half s b e) c d).0
           (kept (pair_image c d) ((pair_decodes (λ x y. leaves b.moment x y b.sent) (λ half e. IsSpared half s0 b0 b × half_leaves half leaves b.moment e b.sent) c d).1 left)).3
 
-  pub kept_images : IsTwice s → CopiesSince s0 b0 b i s → IsKeptTwice s b leaves → IsKeptBy (file_kept i (Some s) b) (state_kept s0 b0 b) (leaves_kept s0 b0 b leaves)
+  pub kept_images : IsTwice s → CopiesSince s0 b0 b i s → IsKeptTwice s b leaves → IsKeptBy (file_kept i s b) (state_kept s0 b0 b) (leaves_kept s0 b0 b leaves)
   kept_images twice since kept image left = (
     twice,
     since.is_open,

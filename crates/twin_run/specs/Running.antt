@@ -5,7 +5,7 @@ use Rattle.kd_records.specs.Identity.{Identity}
 use Rattle.kd_device.specs.Twin.{Both, disk_of, half_leaves, half_state}
 use Rattle.kd_device.specs.declared.half.Half.{Half}
 use Rattle.kd_device.specs.declared.half.Half.TheVariants.{First, Second}
-use Rattle.application_check.specs.Soundness.{AreLimits}
+use Rattle.application_types.specs.Soundness.{AreLimits}
 use Rattle.kdcs_types.specs.Tables.{TableRows}
 use Rattle.kdcs_types.specs.declared.act.Act.{Act}
 use Rattle.kdcs_types.specs.declared.act.Act.TheVariants.{Emit}

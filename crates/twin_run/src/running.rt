@@ -23,7 +23,7 @@ use monitor_core::Core;
 use std::alloc::Global;
 use std::marker::Brand;
 
-// The lines, and which half is lost then. It goes into `lost`: beside the twin it would keep the borrow of it.
+// The lines, and which half is lost then.
 fn send_on<T: Twin, S: Start>(
     alloc: Global,
     twin: T,
@@ -31,8 +31,7 @@ fn send_on<T: Twin, S: Start>(
     limits: StoreLimits,
     fingerprint: &[u8; 32],
     acts: &[Act],
-    lost: &mut Result<Option<Half>, DeviceError>,
-) -> T
+) -> (T, Result<Option<Half>, DeviceError>)
     requires place { T.place twin ≡ S.place }
     requires begins { S.both ≡ T.both twin }
     requires copies { S.store ≡ store }
@@ -41,17 +40,17 @@ fn send_on<T: Twin, S: Start>(
     requires identity { identity_of store ≡ one_more (identity_with limits fingerprint.now) }
     requires kept { IsTrue (T.both twin).told → IsKeptTwice store (T.both twin) (T.leaves twin) }
     requires lines { commits_nothing acts.now ≡ true }
-    ensures place { T.place result ≡ S.place }
-    ensures frame { FrameTwice (T.both twin) (T.both result) }
-    ensures any { (t : TableRows) → KeepsTablesTwice (identity_of store) store t → PartTwice (identity_of store) store t acts.now (T.both twin) (T.both result) (T.leaves twin) (T.leaves result) }
-    ensures done { IfOk lost.new (λ half. IsTrue (T.both twin).told → (t : TableRows) → KeepsTablesTwice (identity_of store) store t → DidTwice (identity_of store) store t acts.now half (T.both twin) (T.both result) (T.leaves result)) }
-    ensures failed { IsErrOf lost.new DeviceError.Failed → FailsTwice store (T.both twin) (T.both result) }
-    ensures fine { (IsErrOf lost.new DeviceError.Failed → ⊥) → FineTwice store (T.both twin) (T.both result) }
+    ensures place { T.place result.0 ≡ S.place }
+    ensures frame { FrameTwice (T.both twin) (T.both result.0) }
+    ensures any { (t : TableRows) → KeepsTablesTwice (identity_of store) store t → PartTwice (identity_of store) store t acts.now (T.both twin) (T.both result.0) (T.leaves twin) (T.leaves result.0) }
+    ensures done { IfOk result.1 (λ half. IsTrue (T.both twin).told → (t : TableRows) → KeepsTablesTwice (identity_of store) store t → DidTwice (identity_of store) store t acts.now half (T.both twin) (T.both result.0) (T.leaves result.0)) }
+    ensures failed { IsErrOf result.1 DeviceError.Failed → FailsTwice store (T.both twin) (T.both result.0) }
+    ensures fine { (IsErrOf result.1 DeviceError.Failed → ⊥) → FineTwice store (T.both twin) (T.both result.0) }
 {
     let mut keeper: TwinKeeper<T, S> = TwinKeeper::new(twin, store, limits, fingerprint);
     let sent = keep_acts(alloc, &mut keeper, acts);
-    *lost = sent.and(Ok(keeper.lost()));
-    keeper.into_twin()
+    let lost = keeper.lost();
+    (keeper.into_twin(), sent.and(Ok(lost)))
 }
 
 // The lines between those of the copies, and which half is lost then.
@@ -74,8 +73,8 @@ fn send_between<T: Twin>(
     ensures failed { IsErrOf result DeviceError.Failed → FailsTwice store (T.both twin.old) (T.both twin.new) }
     ensures fine { (IsErrOf result DeviceError.Failed → ⊥) → FineTwice store (T.both twin.old) (T.both twin.new) }
 {
-    let mut lost = Err(DeviceError::Memory);
-    send_on::<&mut T, Brand>(alloc, twin, store, limits, fingerprint, acts, &mut lost);
+    let (twin, lost) = send_on::<&mut T, Brand>(alloc, twin, store, limits, fingerprint, acts);
+    let _ = twin;
     lost
 }
 
@@ -105,7 +104,7 @@ pub fn send_twice<T: Twin>(
     Ok(())
 }
 
-// The commands, and which half is lost then. It goes into `lost`: beside the twin it would keep the borrow of it.
+// The commands, and which half is lost then.
 fn run_on<T: Twin, S: Start>(
     alloc: Global,
     twin: T,
@@ -114,8 +113,7 @@ fn run_on<T: Twin, S: Start>(
     limits: StoreLimits,
     fingerprint: &[u8; 32],
     commands: &[Command],
-    lost: &mut Result<Option<Half>, OpenError>,
-) -> T
+) -> (T, Result<Option<Half>, OpenError>)
     requires place { T.place twin ≡ S.place }
     requires begins { S.both ≡ T.both twin }
     requires copies { S.store ≡ store }
@@ -126,19 +124,19 @@ fn run_on<T: Twin, S: Start>(
     requires names { IsScriptOf core.application commands.now }
     requires steps { core.steps + sum_by turns_of commands.now ≤ 10 ^ 18 }
     requires kept { IsTrue (T.both twin).told → IsKeptTwice store (T.both twin) (T.leaves twin) }
-    ensures place { T.place result ≡ S.place }
-    ensures any { PartTwice (identity_of store) store (durable_of core) (acts_of (history core.application core.state commands.now)) (T.both twin) (T.both result) (T.leaves twin) (T.leaves result) }
-    ensures done { IfOk lost.new (λ half. IsTrue (T.both twin).told → DidTwice (identity_of store) store (durable_of core) (acts_of (history core.application core.state commands.now)) half (T.both twin) (T.both result) (T.leaves result)) }
-    ensures failed { IsErrOf lost.new OpenError.Failed → FailsTwice store (T.both twin) (T.both result) }
-    ensures fine { (IsErrOf lost.new OpenError.Failed → ⊥) → FineTwice store (T.both twin) (T.both result) }
-    ensures refused { IsErrOf lost.new OpenError.NotKdcfile → IsTrue (T.both twin).told → ⊥ }
-    ensures other { (stored : List ℕ) → IsErrOf lost.new (OpenError.OtherGeneration stored) → IsTrue (T.both twin).told → ⊥ }
+    ensures place { T.place result.0 ≡ S.place }
+    ensures any { PartTwice (identity_of store) store (durable_of core) (acts_of (history core.application core.state commands.now)) (T.both twin) (T.both result.0) (T.leaves twin) (T.leaves result.0) }
+    ensures done { IfOk result.1 (λ half. IsTrue (T.both twin).told → DidTwice (identity_of store) store (durable_of core) (acts_of (history core.application core.state commands.now)) half (T.both twin) (T.both result.0) (T.leaves result.0)) }
+    ensures failed { IsErrOf result.1 OpenError.Failed → FailsTwice store (T.both twin) (T.both result.0) }
+    ensures fine { (IsErrOf result.1 OpenError.Failed → ⊥) → FineTwice store (T.both twin) (T.both result.0) }
+    ensures refused { IsErrOf result.1 OpenError.NotKdcfile → IsTrue (T.both twin).told → ⊥ }
+    ensures other { (stored : List ℕ) → IsErrOf result.1 (OpenError.OtherGeneration stored) → IsTrue (T.both twin).told → ⊥ }
 {
     let mut keeper: TwinKeeper<T, S> = TwinKeeper::new(twin, store, limits, fingerprint);
     let mut done = 0;
     let ran = run_with(alloc, &mut keeper, core, fingerprint, commands, &mut done);
-    *lost = ran.and(Ok(keeper.lost()));
-    keeper.into_twin()
+    let lost = keeper.lost();
+    (keeper.into_twin(), ran.and(Ok(lost)))
 }
 
 // The commands between the lines of the copies, and which half is lost then.
@@ -165,8 +163,7 @@ fn run_between<T: Twin>(
     ensures refused { IsErrOf result OpenError.NotKdcfile → IsTrue (T.both twin.old).told → ⊥ }
     ensures other { (stored : List ℕ) → IsErrOf result (OpenError.OtherGeneration stored) → IsTrue (T.both twin.old).told → ⊥ }
 {
-    let mut lost = Err(OpenError::Memory);
-    run_on::<&mut T, Brand>(
+    let (twin, lost) = run_on::<&mut T, Brand>(
         alloc,
         twin,
         store,
@@ -174,8 +171,8 @@ fn run_between<T: Twin>(
         limits,
         fingerprint,
         commands,
-        &mut lost,
     );
+    let _ = twin;
     lost
 }
 

@@ -3,7 +3,7 @@ use Rattle.std.proofs.Common.{ℕ, List, Result, Ok, Err, refl, subst}
 use Rattle.std.specs.Prelude.{◌≢◌, All, IfOk, IfErr}
 use Rattle.std.specs.Global.{Vec}
 use Rattle.kd_base.specs.FirstFaults.{items_of}
-use Rattle.application_types.specs.UnitText.{UnitText, IsWhole}
+use Rattle.application_types.specs.UnitText.{UnitText, IsSpellable}
 use Rattle.unit_read.specs.declared.fault.UnitFault.{UnitFault}
 use Rattle.unit_read.specs.declared.fault.UnitFault.TheVariants.{Memory}
 use Rattle.unit_read.specs.Answers.{Gives}
@@ -24,7 +24,7 @@ pub found_stands : (text : List ℕ) (r : Result (Vec UnitText) UnitFault) → G
 found_stands text (Ok v) h = text_is text v.items h
 found_stands text (Err e) h = tt
 
-pub read_whole : (text : List ℕ) (r : Result (Vec UnitText) UnitFault) → IfOk r (λ v. SpellsUnits text v.items) → IfOk r (λ v. All IsWhole v.items)
+pub read_whole : (text : List ℕ) (r : Result (Vec UnitText) UnitFault) → IfOk r (λ v. SpellsUnits text v.items) → IfOk r (λ v. All IsSpellable v.items)
 read_whole text (Ok v) h = spelled_whole text v.items h
 read_whole text (Err e) h = tt
 

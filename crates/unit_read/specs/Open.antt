@@ -12,7 +12,7 @@ abbrev pub unit_so_far : OpenUnit → UnitText
 unit_so_far u = record { name = u.name; line = u.line; fields = u.fields.items; labels = u.labels.items; statements = u.statements.items }
 
 -- its sets hold the names of its fields and labels
-pub record IsKept (u : OpenUnit) : Type 0 where
+pub record HasItsNames (u : OpenUnit) : Type 0 where
   pub fields : AreFieldNames u.field_names u.fields.items
   pub labels : AreLabelNames u.label_names u.labels.items
   pub few : length u.statements.items ≤ 10000
@@ -22,7 +22,7 @@ state_of r = record { units = r.units.items; current = option_map unit_so_far r.
 
 abbrev pub OpenIsKept : Option OpenUnit → Type 0
 OpenIsKept None = Unit {0}
-OpenIsKept (Some u) = IsKept u
+OpenIsKept (Some u) = HasItsNames u
 
 -- its set holds the names of the whole units, and the open one is kept
 pub record AreKept (r : Reading) : Type 0 where

@@ -10,7 +10,7 @@ use Rattle.application_types.specs.declared.unit_types.action.Action.TheVariants
 use Rattle.application_types.specs.declared.unit_types.action.Operand.{Operand}
 use Rattle.application_types.specs.declared.unit_types.action.Operand.TheVariants as operands
 use Rattle.application_types.specs.declared.unit_types.action.UnitStatement.{UnitStatement}
-use Rattle.application_types.specs.UnitText.{UnitText, IsShortOperand, IsWhole, operands_of}
+use Rattle.application_types.specs.UnitText.{UnitText, IsShortOperand, IsSpellable, operands_of}
 use Rattle.unit_read.specs.declared.piece.Piece.{Piece}
 use Rattle.unit_read.specs.declared.piece.Piece.TheVariants as pieces
 use Rattle.unit_read.specs.Grammar.{IsOperand, IsAction, SpellsPiece}
@@ -98,7 +98,7 @@ looked_up (l ∷ ls) name h =
       | false ↦ looked_up ls name h.1
     ]
 
-whole_unit : (u : UnitText) (ps : List Placed) → IsBegun u ps → Each IsShortPiece ps → IsWhole u
+whole_unit : (u : UnitText) (ps : List Placed) → IsBegun u ps → Each IsShortPiece ps → IsSpellable u
 whole_unit u ps begun short =
     let body = each_behind IsShortPiece begun.heads begun.body (each_behind IsShortPiece (placed u.line (pieces.Unit u.name) ∷ []) (begun.heads ++ begun.body) (subst (Each IsShortPiece) begun.parts short)) in
     record {
@@ -106,11 +106,11 @@ whole_unit u ps begun short =
       operands = All-from_recursion IsShortStatement u.statements (subst (Each IsShortStatement) (sym begun.statements) (short_statements begun.body body));
     }
 
-whole_units : (us before : List UnitText) (ps : List Placed) → AreUnits before us ps → Each IsShortPiece ps → Each IsWhole us
+whole_units : (us before : List UnitText) (ps : List Placed) → AreUnits before us ps → Each IsShortPiece ps → Each IsSpellable us
 whole_units [] before ps h short = tt
 whole_units (u ∷ us) before ps (own, rest, last, e, follows, begun, more) short =
     let parts = subst (Each IsShortPiece) e short in
     (whole_unit u own begun (each_front IsShortPiece own (placed last pieces.End ∷ rest) parts), whole_units us (before ++ u ∷ []) rest more (each_behind IsShortPiece own (placed last pieces.End ∷ rest) parts).1)
 
-pub spelled_whole : (text : List ℕ) (us : List UnitText) → SpellsUnits text us → All IsWhole us
-spelled_whole text us (few, ps, are, units) = All-from_recursion IsWhole us (whole_units us [] ps units (short_pieces (lines text) 1 ps are))
+pub spelled_whole : (text : List ℕ) (us : List UnitText) → SpellsUnits text us → All IsSpellable us
+spelled_whole text us (few, ps, are, units) = All-from_recursion IsSpellable us (whole_units us [] ps units (short_pieces (lines text) 1 ps are))

@@ -1,8 +1,8 @@
 //! The reader of program units, which are written in the step language.
 //!
-//! It stands on `kd_base`, `texts` and `unit_types`. To the fit of units to a generation its contract says that the units
-//! it gets are those that the text spells, that every other text is refused for the fault of its least line, and that
-//! each field that a statement names is a field of its unit.
+//! It stands on kd_base, texts and application_types. To the fit of units to a generation its contract says that the
+//! units it gets are those that the text spells, that every other text is refused for the fault of its least line, and
+//! that each field that a statement names is a field of its unit.
 #![tactic(auto)]
 
 mod fault;

@@ -1,6 +1,6 @@
 //! A unit whose END has not come yet.
 ghost use Rattle.std.specs.Prelude.{◌≡◌, IfOk, OnOk};
-ghost use Rattle.unit_read.specs.{Names.{AreFieldNames, AreLabelNames}, Units.{begun, with_field, with_label, with_statement, with_piece}, Open.{unit_so_far, IsKept}, Answers.{Gives, after}};
+ghost use Rattle.unit_read.specs.{Names.{AreFieldNames, AreLabelNames}, Units.{begun, with_field, with_label, with_statement, with_piece}, Open.{unit_so_far, HasItsNames}, Answers.{Gives, after}};
 
 use crate::fault::UnitFault;
 use crate::names::{Names, add_name, holds, no_names};
@@ -50,7 +50,7 @@ impl Drop for OpenUnit {
 impl OpenUnit {
     pub(crate) fn new(alloc: Global, name: ProgName, line: u32) -> OpenUnit
         ensures unit { unit_so_far result ≡ begun name line }
-        ensures kept { IsKept result }
+        ensures kept { HasItsNames result }
     {
         OpenUnit {
             name,
@@ -70,9 +70,9 @@ impl OpenUnit {
     }
 
     fn with_field(&mut self, field: Field) -> Result<(), UnitFault>
-        requires { IsKept self.old }
+        requires { HasItsNames self.old }
         ensures unit { Gives (after result (unit_so_far self.new)) (with_field field (unit_so_far self.old)) }
-        ensures kept { OnOk result (IsKept self.new) }
+        ensures kept { OnOk result (HasItsNames self.new) }
     {
         if !self.labels.is_empty() || !self.statements.is_empty() {
             return Err(UnitFault::BadStatement(field.line));
@@ -86,9 +86,9 @@ impl OpenUnit {
     }
 
     fn with_label(&mut self, line: u32, label: Bytes) -> Result<(), UnitFault>
-        requires { IsKept self.old }
+        requires { HasItsNames self.old }
         ensures unit { Gives (after result (unit_so_far self.new)) (with_label line label (unit_so_far self.old)) }
-        ensures kept { OnOk result (IsKept self.new) }
+        ensures kept { OnOk result (HasItsNames self.new) }
     {
         if holds(&self.label_names, &label) {
             return Err(UnitFault::LabelTwice(line));
@@ -100,9 +100,9 @@ impl OpenUnit {
     }
 
     fn with_statement(&mut self, line: u32, said: Said) -> Result<(), UnitFault>
-        requires { IsKept self.old }
+        requires { HasItsNames self.old }
         ensures unit { Gives (after result (unit_so_far self.new)) (with_statement line said (unit_so_far self.old)) }
-        ensures kept { OnOk result (IsKept self.new) }
+        ensures kept { OnOk result (HasItsNames self.new) }
     {
         if !is_defined(said.action(), &self.field_names) {
             return Err(UnitFault::BadField(line));
@@ -116,9 +116,9 @@ impl OpenUnit {
 
     /// One more piece, which is not the END of the unit.
     pub(crate) fn with_piece(&mut self, line: u32, piece: Piece) -> Result<(), UnitFault>
-        requires { IsKept self.old }
+        requires { HasItsNames self.old }
         ensures unit { Gives (after result (unit_so_far self.new)) (with_piece line piece (unit_so_far self.old)) }
-        ensures kept { OnOk result (IsKept self.new) }
+        ensures kept { OnOk result (HasItsNames self.new) }
     {
         match piece {
             Piece::Unit(_) | Piece::End => Err(UnitFault::NoEnd(line)),
@@ -139,7 +139,7 @@ impl OpenUnit {
 
     /// The unit, which ends here.
     pub(crate) fn ended(self, alloc: Global) -> Result<Unit, OutOfMemory>
-        requires { IsKept self }
+        requires { HasItsNames self }
         ensures { IfOk result (λ u. u ≡ unit_so_far self) }
     {
         let OpenUnit {

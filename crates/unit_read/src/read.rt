@@ -1,7 +1,7 @@
 //! Reading a units text.
 ghost use Rattle.std.specs.Prelude.{◌≢◌, All, List, IfOk, IfErr, OnOk};
 ghost use Rattle.kd_base.specs.FirstFaults.{items_of};
-ghost use Rattle.application_types.specs.UnitText.{UnitText, IsWhole};
+ghost use Rattle.application_types.specs.UnitText.{UnitText, IsSpellable};
 ghost use Rattle.unit_read.specs.{declared.fault.UnitFault.TheVariants.{Memory}, Spelling.{SpellsUnits}, Faults.{HasTextFault}, Open.{state_of, AreKept}, Answers.{Gives, after}};
 ghost use Rattle.unit_read.specs.Reading.{line_step, read_text};
 
@@ -61,7 +61,7 @@ pub fn read_units(alloc: Global, text: &[u8]) -> Result<Vec<Unit>, UnitFault>
     // The text spells what is read.
     ensures found { IfOk result (λ units. SpellsUnits text.now units.items) }
     // Labels count from one, and no operand is longer than an area may be.
-    ensures whole { IfOk result (λ units. All IsWhole units.items) }
+    ensures whole { IfOk result (λ units. All IsSpellable units.items) }
     // What the text spells is read, unless memory runs out.
     ensures only { (units : List UnitText) → SpellsUnits text.now units → Gives (items_of result) (Ok units) }
     // The fault that is answered is there.

@@ -1,7 +1,7 @@
 //! What was read so far: whole units, and perhaps an open one.
 ghost use Rattle.std.specs.Prelude.{◌≡◌, None, OnOk};
 ghost use Rattle.kd_base.specs.FirstFaults.{items_of};
-ghost use Rattle.unit_read.specs.{Units.{nothing_read, opened, closed, stepped, finished}, Open.{unit_so_far, IsKept, state_of, AreKept}, Answers.{Gives, after}};
+ghost use Rattle.unit_read.specs.{Units.{nothing_read, opened, closed, stepped, finished}, Open.{unit_so_far, HasItsNames, state_of, AreKept}, Answers.{Gives, after}};
 
 use crate::fault::UnitFault;
 use crate::names::{UnitNames, add_unit_name, holds_unit, no_unit_names};
@@ -58,7 +58,7 @@ impl Reading {
     fn closed(&mut self, alloc: Global, unit: OpenUnit) -> Result<(), UnitFault>
         requires kept { AreKept self.old }
         requires none { self.old.unit ≡ None }
-        requires unit { IsKept unit }
+        requires unit { HasItsNames unit }
         ensures state { Gives (after result (state_of self.new)) (closed self.old.units.items (unit_so_far unit)) }
         ensures kept { OnOk result (AreKept self.new) }
     {

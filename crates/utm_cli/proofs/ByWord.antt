@@ -18,15 +18,13 @@ use Rattle.utm_cli.specs.MadeReport.{report_of}
 use Rattle.utm_cli.specs.declared.words.Word.{Word}
 use Rattle.utm_cli.specs.declared.words.Word.TheVariants.{Gen, Run, Show, Update, Trail, Audit, Make}
 use Rattle.utm_cli.specs.Asking.{Errand, app_of}
-use Rattle.utm_cli.specs.Doing.{IsOverFile, Opens, OpensWith, OpeningRefuses, StartsBy, Starts, RefusesBy, Refuses, identity_of, own, tables_by, tables_of, acts_by, acts_of, trail_of, entry_count}
+use Rattle.utm_cli.specs.Doing.{IsOverFile, Opens, OpensWith, OpeningRefuses, StartsBy, Starts, RefusesBy, Refuses, identity_of, own, tables_by, tables_of, acts_by, acts_of, held_line, trail_of}
 use Rattle.utm_cli.specs.Asking.{looking_word, storing_word}
 use Rattle.utm_cli.specs.Parts.{looked_by}
 use Rattle.utm_cli.specs.declared.errand.Looking.{Looking}
 use Rattle.utm_cli.specs.declared.errand.Looking.TheVariants as looking
 use Rattle.utm_cli.specs.declared.errand.Storing.{Storing}
 use Rattle.utm_cli.specs.declared.errand.Storing.TheVariants as storing
-use Rattle.trail_run.specs.Auditing.{verdict_line}
-use Rattle.trail_run.specs.declared.trail_words.verdict.Verdict.TheVariants.{Holds}
 use Rattle.utm_cli.specs.Promise.{RanOver, RanBy, Ran, IsCutOver, IsCutBy, IsCutOfRun, IsFront, SaysFront, MakesFile, MayAttach, MayHandOn, HandsOn, WritesActsAlone, Tells}
 use Rattle.utm_cli.proofs.Ran.{part_then, nothing_said}
 
@@ -216,7 +214,7 @@ SendsAside Run e t lines = ⊥
 SendsAside Show e t lines = lines ≡ listing t
 SendsAside Update e t lines = ⊥
 SendsAside Trail e t lines = lines ≡ trail_of e t
-SendsAside Audit e t lines = lines ≡ verdict_line (Holds (entry_count e.trail))
+SendsAside Audit e t lines = lines ≡ held_line e
 SendsAside (Make n) e t lines = lines ≡ report_of n (app_of e) e.commands
 
 pub looking_sends : (l : Looking) (e : Errand) (t : TableRows) → SendsAside (looking_word l) e t (looked_by l e t)
@@ -233,7 +231,7 @@ bytes_by Run e t lines is = absurd is
 bytes_by Show e t lines is = is ∙ one_line (listing t)
 bytes_by Update e t lines is = absurd is
 bytes_by Trail e t lines is = is ∙ one_line (trail_of e t)
-bytes_by Audit e t lines is = is ∙ one_line (verdict_line (Holds (entry_count e.trail)))
+bytes_by Audit e t lines is = is ∙ one_line (held_line e)
 bytes_by (Make n) e t lines is = is ∙ one_line (report_of n (app_of e) e.commands)
 
 said_by : (word : Word) (e : Errand) (t : TableRows) (lines : List ℕ) → SendsAside word e t lines → (acts : List Act) (u : TableRows) (a b : State) (lb : ℕ → List ℕ → List ℕ → Type 0) → Said (bytes_of acts) a b → RanBy word (identity_of e) acts u a b lb

@@ -1,7 +1,7 @@
 -- The acts of an errand, from tables that a store keeps.
 use Rattle.std.proofs.Common.{◌≡◌, inl, inr, ⊎_elim, arith, true, ℕ, List, ◌++◌, sym, ap, subst, ◌∙◌, Result, Ok, Err}
 use Rattle.std.specs.Prelude.{IsTrue, OnOk}
-use Rattle.application_check.specs.Soundness.{AreLimits}
+use Rattle.application_types.specs.Soundness.{AreLimits}
 use Rattle.kd_device.specs.Device.{State}
 use Rattle.kd_records.specs.Identity.{Identity}
 use Rattle.kd_records.specs.declared.content.Content.{Content}
@@ -81,12 +81,12 @@ module _ (e : Errand) (t : TableRows) (acts : List Act) (gen : e.word ≡ Gen) (
 -- ---- the script
 
 module _ (e : Errand) (t : TableRows) (core : CoreValue) (application : core.application ≡ app_of e) (state : core.state ≡ started core.application t) (steps : core.steps ≡ 0) where
-  core_is : core ≡ begun_with (app_of e) t
+  pub core_is : core ≡ begun_with (app_of e) t
   core_is =
       let here : core.state ≡ started (app_of e) t = state ∙ ap (λ (app : Application). started app t) application in
       λ i. record { application = application i; state = here i; steps = steps i }
 
-  durable_is : Suits e.application.generation t → durable e.application.generation (started (app_of e) t).tables ≡ t
+  pub durable_is : Suits e.application.generation t → durable e.application.generation (started (app_of e) t).tables ≡ t
   durable_is suits = ap (durable e.application.generation) (started_tables (app_of e) t) ∙ durable_same e.application.generation t suits
 
   pub core_runs : CanRun e → Suits e.application.generation t → HasFacts core.application core.state → AreLimits core.application.generation.limits → (store : Paged) → KeepsTables (identity_of e) store t → IsRunning e.fingerprint core store

@@ -13,7 +13,7 @@ use Rattle.kd_base.specs.Text.{IsName, is_name_byte, is_between, hex_digit, esca
 use Rattle.kd_base.specs.ToolsLaws.{both_true, some_is}
 use Rattle.application_types.specs.Generation.{entry_of, tac_of}
 use Rattle.application_types.specs.declared.kdcdef_types.entry.TacEntry.{TacEntry}
-use Rattle.application_check.specs.Soundness.{AreNamed, HaveProperNames}
+use Rattle.application_types.specs.Soundness.{AreNamed, HaveProperNames}
 use Rattle.kdcs_types.specs.declared.act.Act.{Act}
 use Rattle.kdcs_types.specs.declared.act.Act.TheVariants.{Commit, Emit}
 use Rattle.kdcs_types.specs.declared.call.Cause.{Cause}

@@ -8,6 +8,7 @@ pub mod Opened
 pub mod Ran
 pub mod ByWord
 pub mod Updated
+pub mod HandedOn
 pub mod Refused
 pub mod Writing
 pub mod Stopping

@@ -24,12 +24,12 @@ use Rattle.application_check.specs.EndsLaws.{end_is}
 use Rattle.application_check.specs.Faults.{AreFaultless, shows, is_taken, shares_lterm, kind_of, kind_count, lacks_program, lacks_lterm, has_other_class, is_end, has_small_pool, lacks_user}
 use Rattle.application_check.specs.Faults.{lacks_kset, has_full_pool}
 use Rattle.application_types.specs.declared.unit_types.action.UnitStatement.{UnitStatement}
-use Rattle.application_types.specs.UnitText.{UnitText, IsWhole, jump_of, label_place}
+use Rattle.application_types.specs.UnitText.{UnitText, IsSpellable, jump_of, label_place}
 use Rattle.unit_read.specs.Reading.{read_text as read_units}
 use Rattle.unit_read.specs.Spelling.{SpellsUnits}
 use Rattle.unit_read.specs.Found.{ReadUnitsAreSpelled}
 use Rattle.unit_read.specs.WholeLaws.{spelled_whole}
-use Rattle.application_check.specs.Fitted.{unit_named, IsInside, literal_follow_up, tac_in, IsFitted, AreFittedTo}
+use Rattle.application_types.specs.Fitted.{unit_named, IsInside, literal_follow_up, tac_in, IsFitted, AreFittedTo}
 use Rattle.application_read.specs.Definition.{Generates}
 use Rattle.application_read.specs.Texts.{SpellsFitted, TextsGenerate}
 use Rattle.abstract_monitor.specs.Made.{made_tac, made_user, made_lterm, made_pterm, made_generation, add_unit, tally_unit}
@@ -240,7 +240,7 @@ units_read = refl
 abbrev HasNoNames : UnitText → UnitStatement → Type 0
 HasNoNames unit s = (jump_of s.action ≡ None) × (literal_follow_up s.action ≡ None)
 
-module _ (unit : UnitText) (inside : All (IsInside made_generation.limits) unit.fields) (none : All (HasNoNames unit) unit.statements) (whole : IsWhole unit) where
+module _ (unit : UnitText) (inside : All (IsInside made_generation.limits) unit.fields) (none : All (HasNoNames unit) unit.statements) (whole : IsSpellable unit) where
   fits : IsFitted made_generation.limits made_generation.tacs unit
   fits = record {
     fields = inside;
@@ -254,20 +254,20 @@ module _ (unit : UnitText) (inside : All (IsInside made_generation.limits) unit.
       no_name P (Some x) h = absurd cc
 
 module _ (spells : SpellsUnits units_text units) where
-  whole : All IsWhole units
+  whole : All IsSpellable units
   whole = spelled_whole units_text units spells
 
   add_fits : IsFitted made_generation.limits made_generation.tacs add_unit
   add_fits =
       fits add_unit (All-from_recursion (IsInside made_generation.limits) add_unit.fields (omega arith, (omega arith, tt)))
       (All-from_recursion (HasNoNames add_unit) add_unit.statements ((refl, refl), ((refl, refl), ((refl, refl), ((refl, refl), ((refl, refl), ((refl, refl), ((refl, refl), ((refl, refl), tt)))))))))
-      (All-head IsWhole add_unit (tally_unit ∷ []) whole)
+      (All-head IsSpellable add_unit (tally_unit ∷ []) whole)
 
   tally_fits : IsFitted made_generation.limits made_generation.tacs tally_unit
   tally_fits =
       fits tally_unit (All-from_recursion (IsInside made_generation.limits) tally_unit.fields (omega arith, (omega arith, tt)))
       (All-from_recursion (HasNoNames tally_unit) tally_unit.statements ((refl, refl), ((refl, refl), ((refl, refl), ((refl, refl), ((refl, refl), ((refl, refl), tt)))))))
-      (All-head IsWhole tally_unit [] (All-tail IsWhole add_unit (tally_unit ∷ []) whole))
+      (All-head IsSpellable tally_unit [] (All-tail IsSpellable add_unit (tally_unit ∷ []) whole))
 
   fitted : AreFittedTo made_generation units fitted_units
   fitted = record {

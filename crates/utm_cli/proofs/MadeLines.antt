@@ -8,7 +8,7 @@ use Rattle.application_types.specs.declared.kdcdef_types.entry.LtermEntry.{Lterm
 use Rattle.application_types.specs.declared.kdcdef_types.entry.PtermEntry.{PtermEntry}
 use Rattle.application_types.specs.declared.kdcdef_types.entry.TacEntry.{TacEntry}
 use Rattle.application_types.specs.declared.kdcdef_types.entry.UserEntry.{UserEntry}
-use Rattle.application_check.specs.Soundness.{AreNamed}
+use Rattle.application_types.specs.Soundness.{AreNamed}
 use Rattle.kdcs_types.specs.RowLaws.{empty_sorted}
 use Rattle.kdcs_types.specs.Tables.{empty_tables}
 use Rattle.abstract_monitor.specs.Bytes.{Bytes}

@@ -1,7 +1,7 @@
 -- A monitor that starts from the empty tables, and the lines on its run.
 use Rattle.std.proofs.Common.{◌≡◌, ℕ, List, refl, sym, ap, subst, ◌∙◌}
 use Rattle.std.specs.Prelude.{Result, Ok, Err, IfOk}
-use Rattle.application_check.specs.Soundness.{AreLimits}
+use Rattle.application_types.specs.Soundness.{AreLimits}
 use Rattle.kdcfile_store.specs.Paged.{Paged}
 use Rattle.kdcs_types.specs.declared.act.Act.{Act}
 use Rattle.kdcs_types.specs.Tables.{TableRows, empty_tables}

@@ -1,7 +1,6 @@
 -- A file is accepted, or refused for one reason; and how a reason is handed on.
-use Rattle.std.proofs.Common.{◌≡◌, ◌⊎◌, inl, inr, ⊎_elim, ℕ, List, refl, sym, ap, subst, ◌∙◌}
+use Rattle.std.proofs.Common.{◌≡◌, inl, inr, ⊎_elim, ℕ, List, refl, sym, ap, subst, ◌∙◌}
 use Rattle.std.specs.Prelude.{Result, Err, IsErrAnd, IsErrOf}
-use Rattle.kd_base.specs.ToolsLaws.{err_is, error_same}
 use Rattle.kdcfile_update.specs.declared.kd_update.error.UpdateError.{UpdateError}
 use Rattle.kdcfile_update.specs.declared.kd_update.error.UpdateError.TheVariants as cause
 use Rattle.device_acts.specs.MeaningLaws.{answers_exclude_each_other}
@@ -22,6 +21,7 @@ use Rattle.trail_run.specs.Auditing.{TrailsAreJudgedOnce}
 use Rattle.utm_cli.specs.Asking.{Errand}
 use Rattle.utm_cli.specs.AuditLaws.{holds_or_differs, differs_once}
 use Rattle.utm_cli.specs.Causes.{of_open, of_carry}
+use Rattle.utm_cli.proofs.HandedOn.{handed, same_reason}
 use Rattle.utm_cli.specs.Doing.{OpensWith, OpeningRefuses, UpdateTakes, UpdateRefuses, StartsBy, Starts, RefusesBy, Refuses}
 
 -- ---- a file is answered in one way
@@ -34,6 +34,8 @@ cause_of (why.OtherBlksize n) = cause.OtherBlksize n
 cause_of (why.SmallerPool n) = cause.SmallerPool n
 cause_of (why.TooManyGssbs n) = cause.TooManyGssbs n
 cause_of (why.TooLarge n) = cause.TooLarge n
+cause_of why.SequenceSpent = cause.Memory
+cause_of why.TwoCopies = cause.Memory
 cause_of (why.Differs n) = cause.Memory
 
 abbrev reason_of : UpdateError → FileRefusal
@@ -51,31 +53,14 @@ module _ (once : TrailsAreJudgedOnce) (e : Errand) (bytes : List ℕ) where
   judgement : HasOneUpdate e.application.generation e.fingerprint bytes
   judgement = update_answers_exclude_each_other e.application.generation e.fingerprint bytes
 
-  -- the two reasons of an opening
-  abbrev IsEither : FileRefusal → Type 0
-  IsEither r = (IsRefused e.application.generation e.fingerprint bytes × (why.NotKdcfile ≡ r)) ⊎ ((stored : List ℕ) × IsOfOtherTexts stored e.fingerprint bytes × (why.OtherGeneration stored ≡ r))
-
-  either : (r : FileRefusal) → OpeningRefuses e bytes r → IsEither r
-  either why.NotKdcfile h = inl (h, refl)
-  either (why.OtherGeneration stored) h = inr (stored, h, refl)
-  either (why.OtherBlksize n) h = absurd h
-  either (why.SmallerPool n) h = absurd h
-  either (why.TooManyGssbs n) h = absurd h
-  either (why.TooLarge n) h = absurd h
-  either (why.Differs n) h = absurd h
-
   opened_or_refused : (s : Stored) (r : FileRefusal) → OpensWith e bytes s → OpeningRefuses e bytes r → ⊥
-  opened_or_refused s r opens refuses =
-      ⊎_elim (λ none. answer.started_or_refused s.tables opens.opens none.0) (λ other. answer.started_or_other s.tables other.0 opens.opens other.1) (either r refuses)
+  opened_or_refused s r opens refuses = ⊎_elim (λ none. answer.started_or_refused s.tables opens.opens none.1) (λ other. answer.started_or_other s.tables other.0 opens.opens other.2) refuses
 
   refused_once : (r q : FileRefusal) → OpeningRefuses e bytes r → OpeningRefuses e bytes q → r ≡ q
-  refused_once r q h k = by (either r h) (either q k)
-    where
-      by : IsEither r → IsEither q → r ≡ q
-      by (inl none) (inl again) = sym none.1 ∙ again.1
-      by (inl none) (inr other) = absurd (answer.refused_or_other other.0 none.0 other.1)
-      by (inr other) (inl none) = absurd (answer.refused_or_other other.0 none.0 other.1)
-      by (inr other) (inr again) = sym other.2 ∙ ap (λ (stored : List ℕ). why.OtherGeneration stored) (answer.other_once other.0 again.0 other.1 again.1) ∙ again.2
+  refused_once r q (inl none) (inl again) = none.0 ∙ sym again.0
+  refused_once r q (inl none) (inr other) = absurd (answer.refused_or_other other.0 none.1 other.2)
+  refused_once r q (inr other) (inl none) = absurd (answer.refused_or_other other.0 none.1 other.2)
+  refused_once r q (inr other) (inr again) = other.1 ∙ ap (λ (stored : List ℕ). why.OtherGeneration stored) (answer.other_once other.0 again.0 other.2 again.2) ∙ sym again.1
 
   -- a reason of an update is one of the judgement
   judged : (r : FileRefusal) → UpdateRefuses e bytes r → RefusesAs e.application.generation e.fingerprint bytes (cause_of r) × (reason_of (cause_of r) ≡ r)
@@ -85,6 +70,8 @@ module _ (once : TrailsAreJudgedOnce) (e : Errand) (bytes : List ℕ) where
   judged (why.SmallerPool n) h = (h, refl)
   judged (why.TooManyGssbs n) h = (h, refl)
   judged (why.TooLarge n) h = (h, refl)
+  judged why.SequenceSpent h = absurd h
+  judged why.TwoCopies h = absurd h
   judged (why.Differs n) h = absurd h
 
   taken_or_refused : (s : Stored) (r : FileRefusal) → UpdateTakes e bytes s → UpdateRefuses e bytes r → ⊥
@@ -122,28 +109,23 @@ module _ (once : TrailsAreJudgedOnce) (e : Errand) (bytes : List ℕ) where
 
 -- ---- errors that are handed on
 
-same_reason : (r q : FileRefusal) → Refused r ≡ Refused q → r ≡ q
-same_reason r q is = cc
-
 module _ (T U : Type 0) (given : Result T CallError) where
-  handed : (x v : CallError) → IsErrAnd given (λ y. y ≡ x) → IsErrOf given v → x ≡ v
-  handed x v gives is = err_is U x v (error_same T U given x v gives is)
-
   -- those of an opening
-  pub open_refused : (x : OpenError) (r : FileRefusal) → IsErrAnd given (λ y. y ≡ of_open x) → IsErrOf given (Refused r) → (P : FileRefusal → Type 0)
-      → (IsErrOf {T = U} (Err x) opening.NotKdcfile → P why.NotKdcfile) → ((stored : List ℕ) → IsErrOf {T = U} (Err x) (opening.OtherGeneration stored) → P (why.OtherGeneration stored)) → P r
-  open_refused x r gives is P none other = by x (handed (of_open x) (Refused r) gives is) none other
+  pub open_refused : (x : OpenError) (r : FileRefusal) → IsErrAnd given (λ y. y ≡ of_open x) → IsErrOf given (Refused r) → (e : Errand) (bytes : List ℕ) → (IsErrOf {T = U} (Err x) opening.NotKdcfile → IsRefused e.application.generation e.fingerprint bytes)
+      → ((stored : List ℕ) → IsErrOf {T = U} (Err x) (opening.OtherGeneration stored) → IsOfOtherTexts stored e.fingerprint bytes) → OpeningRefuses e bytes r
+  open_refused x r gives is e bytes none other = by x (handed given (of_open x) (Refused r) gives is) none other
     where
-      by : (x : OpenError) → of_open x ≡ Refused r → (IsErrOf {T = U} (Err x) opening.NotKdcfile → P why.NotKdcfile) → ((stored : List ℕ) → IsErrOf {T = U} (Err x) (opening.OtherGeneration stored) → P (why.OtherGeneration stored)) → P r
-      by opening.NotKdcfile is none other = subst P (same_reason why.NotKdcfile r is) (none refl)
-      by (opening.OtherGeneration stored) is none other = subst P (same_reason (why.OtherGeneration stored) r is) (other stored refl)
+      by : (x : OpenError) → of_open x ≡ Refused r → (IsErrOf {T = U} (Err x) opening.NotKdcfile → IsRefused e.application.generation e.fingerprint bytes) → ((stored : List ℕ) → IsErrOf {T = U} (Err x) (opening.OtherGeneration stored) → IsOfOtherTexts stored e.fingerprint bytes)
+          → OpeningRefuses e bytes r
+      by opening.NotKdcfile is none other = inl (sym (same_reason why.NotKdcfile r is), none refl)
+      by (opening.OtherGeneration stored) is none other = inr (stored, sym (same_reason (why.OtherGeneration stored) r is), other stored refl)
       by opening.Failed is none other = absurd cc
       by opening.Memory is none other = absurd cc
 
   -- those of an update
   pub carry_refused : (x : CarryError) (r : FileRefusal) → IsErrAnd given (λ y. y ≡ of_carry x) → IsErrOf given (Refused r) → (e : Errand) (bytes : List ℕ)
       → ((c : UpdateError) → IsErrOf {T = U} (Err x) (carrying.Refused c) → RefusesAs e.application.generation e.fingerprint bytes c) → UpdateRefuses e bytes r
-  carry_refused x r gives is e bytes judged = by x (handed (of_carry x) (Refused r) gives is) judged
+  carry_refused x r gives is e bytes judged = by x (handed given (of_carry x) (Refused r) gives is) judged
     where
       by : (x : CarryError) → of_carry x ≡ Refused r → ((c : UpdateError) → IsErrOf {T = U} (Err x) (carrying.Refused c) → RefusesAs e.application.generation e.fingerprint bytes c) → UpdateRefuses e bytes r
       by (carrying.Refused cause.NotKdcfile) is judged = subst (UpdateRefuses e bytes) (same_reason why.NotKdcfile r is) (judged cause.NotKdcfile refl)

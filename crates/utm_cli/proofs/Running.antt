@@ -12,10 +12,8 @@ use Rattle.kdcfile_update.specs.Updating.{Stored, UpdateWrites}
 use Rattle.audit_trail.specs.declared.entry.Trail.{Trail as Kept}
 use Rattle.refusals.specs.Statuses.{IsOneOf}
 use Rattle.refusals.specs.declared.error.FileRefusal.{FileRefusal}
-use Rattle.trail_run.specs.Auditing.{verdict_line}
-use Rattle.trail_run.specs.declared.trail_words.verdict.Verdict.TheVariants.{Holds}
 use Rattle.utm_cli.specs.Asking.{Errand, app_of, audit_errand, looking_errand, making, storing_errand, update_errand}
-use Rattle.utm_cli.specs.Doing.{AuditRefuses, HoldsAll, IsOverFile, Opens, OpeningRefuses, UpdateRefuses, UpdateTakes, entry_count, identity_of, own}
+use Rattle.utm_cli.specs.Doing.{AuditRefuses, HoldsAll, IsOverFile, Opens, OpeningRefuses, UpdateRefuses, UpdateTakes, held_line, identity_of, own}
 use Rattle.utm_cli.specs.MadeReport.{report_of}
 use Rattle.utm_cli.specs.Parts.{DoesOne, EndsOne, ErrandHalts, ErrandStops, HasTrailBytes, LooksBytes, LooksFront, RanOpened, RanUpdate, StopsInUpdate, StopsOverStore, StoreWrites, looked_by}
 use Rattle.utm_cli.specs.Promise.{CallFailed, HaltsRun, IsCutOfRun, LeavesLines, MakesFile, MayAttach, Ran, SaysFront, StopsRun}
@@ -147,20 +145,17 @@ module _ (w : Work) (trail : Kept) (name : List ℕ) (r : Result Unit CallError)
   abbrev audited : Errand
   audited = audit_errand w trail
 
-  abbrev held_line : List ℕ
-  held_line = verdict_line (Holds (entry_count audited.trail))
-
-  pub audit_does : OnOk r ((s : Stored) × HoldsAll audited s × (IsTrue a.told → Said held_line a b)) → ((why : FileRefusal) → IsErrOf r (Refused why) → AuditRefuses audited why) → ((IsErrOf r Failed → ⊥) → SameFaults a b) → (IsErrOf r Failed → CallFailed a b)
-      → (IsTrue a.told → ((s : Stored) → HoldsAll audited s → ⊥) → Rests a b la lb) → (IsTrue a.told → SaysFront held_line a b la lb) → Frame a b → b.names ≡ a.names → DoesOne audited name r a b la lb
+  pub audit_does : OnOk r ((s : Stored) × HoldsAll audited s × (IsTrue a.told → Said (held_line audited) a b)) → ((why : FileRefusal) → IsErrOf r (Refused why) → AuditRefuses audited why) → ((IsErrOf r Failed → ⊥) → SameFaults a b) → (IsErrOf r Failed → CallFailed a b)
+      → (IsTrue a.told → ((s : Stored) → HoldsAll audited s → ⊥) → Rests a b la lb) → (IsTrue a.told → SaysFront (held_line audited) a b la lb) → Frame a b → b.names ≡ a.names → DoesOne audited name r a b la lb
   audit_does done refused fine failed still front frame names = record {
-    done = on_ok_weaker r (λ h tells. (h.0, h.1, λ told. subst (λ (u : Stored). Ran audited u a b lb) (sym (own_start audited h.0 h.1)) (ran_aside audited h.0.tables held_line refl a b la lb (h.2 told)))) done;
+    done = on_ok_weaker r (λ h tells. (h.0, h.1, λ told. subst (λ (u : Stored). Ran audited u a b lb) (sym (own_start audited h.0 h.1)) (ran_aside audited h.0.tables (held_line audited) refl a b la lb (h.2 told)))) done;
     refused = λ why is tells. refused why is;
     fine = fine;
     failed = failed;
     stopped = at_error _ r (λ told u from run. absurd cc);
     halted = λ is told u from run. absurd cc;
     still = still;
-    any_moment = λ told only s from. subst (λ (u : Stored). LeavesOnly a b la lb (IsCutOfRun audited u a)) (sym (own_start audited s from)) (cut_aside audited s.tables held_line refl a b la lb only (front told));
+    any_moment = λ told only s from. subst (λ (u : Stored). LeavesOnly a b la lb (IsCutOfRun audited u a)) (sym (own_start audited s from)) (cut_aside audited s.tables (held_line audited) refl a b la lb only (front told));
     written = λ told. inl (front told).part.disk.put;
     left = λ told s from alone lines. (front told).part.disk;
     bytes = always _ r (λ told s from is. absurd cc);

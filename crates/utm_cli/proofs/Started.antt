@@ -13,7 +13,7 @@ use Rattle.laws_of_runs.specs.ManyRuns.{AllRunsKeepJobs}
 use Rattle.laws_of_runs.specs.QueueLaws.{JobsAreDoneOnce}
 use Rattle.laws_of_runs.specs.ResumeLaws.{CutsResume}
 use Rattle.laws_of_runs.specs.SerialCuts.{CutsAreSerial}
-use Rattle.application_check.specs.Soundness.{AreLimits}
+use Rattle.application_types.specs.Soundness.{AreLimits}
 use Rattle.kdcfile_update.specs.Laws.{TakenTablesSuit}
 use Rattle.kdcfile_update.specs.Updating.{Stored}
 use Rattle.audit_trail.specs.Facts.{IsTrail}

@@ -1,20 +1,14 @@
 -- A run that stopped, or on which a call failed.
-use Rattle.std.proofs.Common.{◌≡◌, ◌≤◌, inl, inr, ⊎_elim, refl, sym, subst, ◌∙◌, arith}
-use Rattle.std.specs.Prelude.{Result, Ok, Err, OnErr, IsErrAnd, IsErrOf}
-use Rattle.kd_base.specs.ToolsLaws.{err_is}
+use Rattle.std.proofs.Common.{◌≡◌, ◌≤◌, inl, inr, ⊎_elim, subst, ◌∙◌, arith}
+use Rattle.std.specs.Prelude.{Result, Ok, Err, OnErr}
 use Rattle.kd_device.specs.Device.{State}
 use Rattle.kdcfile_update.specs.Updating.{Stored}
 use Rattle.kdcs_types.specs.Tables.{TableRows}
 use Rattle.device_acts.specs.Stands.{StandsForTables}
-use Rattle.device_acts.specs.declared.warm_start.error.OpenError.{OpenError}
-use Rattle.device_acts.specs.declared.warm_start.error.OpenError.TheVariants as opening
 use Rattle.device_run.specs.StoppingLaws.{halted_after, stopped_after}
 use Rattle.utm_cli.specs.Asking.{Errand, app_of, looking_word}
-use Rattle.utm_cli.specs.Causes.{of_open}
 use Rattle.utm_cli.specs.Doing.{Opens, acts_of, identity_of, own}
 use Rattle.utm_cli.specs.Promise.{HaltsRun, StopsRun, begun_with}
-use Rattle.utm_cli.specs.declared.error.CallError.{CallError}
-use Rattle.utm_cli.specs.declared.error.CallError.TheVariants.{Failed}
 use Rattle.utm_cli.specs.declared.errand.Looking.{Looking}
 use Rattle.utm_cli.specs.declared.errand.Looking.TheVariants as looking
 use Rattle.utm_cli.specs.declared.words.Word.TheVariants.{Run}
@@ -33,17 +27,6 @@ on_err_weaker (Err e) f h = f h
 pub looking_is_no_run : (l : Looking) → looking_word l ≡ Run → ⊥
 looking_is_no_run looking.Listing is = cc
 looking_is_no_run (looking.Trail commands) is = cc
-
--- a script that failed as the device did
-open_failed : (U : Type 0) (x : OpenError) → of_open x ≡ Failed → IsErrOf {T = U} (Err x) opening.Failed
-open_failed U opening.NotKdcfile is = absurd cc
-open_failed U (opening.OtherGeneration stored) is = absurd cc
-open_failed U opening.Failed is = refl
-open_failed U opening.Memory is = absurd cc
-
-pub script_failed : {T : Type 0} (U : Type 0) (x : OpenError) (r : Result T CallError) → IsErrAnd r (λ y. y ≡ of_open x) → IsErrOf r Failed → IsErrOf {T = U} (Err x) opening.Failed
-script_failed U x (Ok y) gives is = absurd gives
-script_failed {T} U x (Err y) gives is = open_failed U x (sym gives ∙ err_is T y Failed is)
 
 -- ---- seen from before the file was opened
 

@@ -1,6 +1,6 @@
 -- What the texts of a call say, where one longer than the limit is cut off.
 use Rattle.std.proofs.Common.{◌≡◌, ◌≢◌, ◌⊎◌, inl, inr, ⊎_elim, ℕ, ◌<◌, ◌≤◌, Bool, true, false, List, length, Option, Some, None, Result, Ok, Err, refl, sym, ap, subst, ◌∙◌, arith}
-use Rattle.std.specs.Prelude.{nat_lt, IsSomeAnd, IsErrOf, IsErrAnd, IfOk, IfErr}
+use Rattle.std.specs.Prelude.{nat_lt, IsSomeAnd, IsErrOf, IsErrAnd, IfErr}
 use Rattle.std.proofs.lemmas.List.{take_all, length-take}
 use Rattle.std.proofs.lemmas.Bool.Decides.{nat_tests}
 use Rattle.kd_base.specs.ToolsLaws.{err_is, ok_is}
@@ -420,11 +420,6 @@ read_fault others a print s trail.Memory some h = absurd (some refl)
 pub handed_err : {T E : Type 0} (r : Result T E) (e : E) (P : E → Type 0) → IsErrAnd r (λ x. x ≡ e) → P e → IfErr r P
 handed_err (Ok x) e P gives p = absurd gives
 handed_err (Err x) e P gives p = subst P (sym gives) p
-
--- a value has what follows from what it has
-pub ok_weaker : {X E : Type 0} (r : Result X E) (P Q : X → Type 0) → ((x : X) → P x → Q x) → IfOk r P → IfOk r Q
-ok_weaker (Ok x) P Q h p = h x p
-ok_weaker (Err e) P Q h p = p
 
 -- a read that failed, as the error of the texts and as its own
 pub handed_room : (T U : Type 0) (r : Result T DeviceError) (e : DeviceError) → IsErrAnd r (λ x. x ≡ e) → IsErrOf r room.Failed → IsErrOf {T = U} (Err e) room.Failed

@@ -4,7 +4,6 @@ mod Keeps
 mod ByWord
 mod Does
 mod Scripts
-mod Aside
 mod Refused
 mod Calls
 mod Lawful

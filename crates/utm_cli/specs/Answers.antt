@@ -11,8 +11,8 @@ use Rattle.kdcfile_update.specs.Updating.{Stored}
 use Rattle.refusals.specs.Lines.{refusal_line, file_line}
 use Rattle.refusals.specs.Statuses.{IsOneOf, status_of, status_of_file}
 use Rattle.refusals.specs.Texts.{NoReadFailed}
+use Rattle.refusals.specs.declared.error.FileRefusal.{FileRefusal}
 use Rattle.trail_run.specs.Trailing.{HasBytes}
-use Rattle.utm_cli.specs.declared.twin.error.TwinRefusal.{TwinRefusal}
 use Rattle.utm_cli.specs.declared.words.Word.TheVariants.{Make}
 use Rattle.utm_cli.specs.Asking.{app_of}
 use Rattle.utm_cli.specs.Doing.{Starts, tables_of}
@@ -21,8 +21,8 @@ use Rattle.utm_cli.specs.Parts.{LooksBytes}
 use Rattle.utm_cli.specs.Promise.{Attaches, AsksNothing, Call, CallFailed, Completes, EndsInCut, ForErrand, ForFile, ForOwnTrail, ForRefusal, ForRun}
 use Rattle.utm_cli.specs.Promise.{ForStart, ForStartAtRest, ForTrail, HaltsRun, HasDone, LeavesCuts, LeavesFile}
 use Rattle.utm_cli.specs.Promise.{Misses, Request, RunsLawfully, SaysFile, SaysPart, SaysRefusal, StopsRun, Writes, call}
-use Rattle.utm_cli.specs.PromiseTwo.{AttachesTwoBy, CompletesTwo, EndsTwo, FailsTwo, FaultsTwo, ForOwnTrailTwo, ForTwo, ForTwoErrand, ForTwoFiles, ForTwoRefusal, ForTwoStart, FrameTwin, IsSingleCall}
-use Rattle.utm_cli.specs.PromiseTwo.{MayAttachTwoBy, SaidTwo, SameNamesTwo, SaysPartTwo, SaysWhyTwo, StopsTwo, TwinCall, status_of_two, twin_line}
+use Rattle.utm_cli.specs.PromiseTwo.{AttachesTwoBy, CompletesTwo, EndsTwo, FailsTwo, FaultsTwo, ForOwnTrailTwo, ForTwo, ForTwoErrand, ForTwoFiles, ForTwoRefusal, ForTwoStart, IsSingleCall}
+use Rattle.utm_cli.specs.PromiseTwo.{FineTwo, FrameTwin, MayAttachTwoBy, SaidTwo, SameNamesTwo, SaysPartTwo, SaysWhyTwo, StopsTwo, TwinCall}
 use Rattle.utm_cli.specs.Words.{usage_line}
 
 -- a call over one file ended with this status, and left this room and this device
@@ -107,7 +107,7 @@ pub record AnswersTwo (c : TwinCall) (r : RoomState) (b : Both) (la lb : ℕ →
   pub texts_names : ForTwoRefusal c (λ why. SameNamesTwo c.twin b)
   pub texts_only : ForTwoErrand c (λ e. IsOneOf (0 ∷ 4 ∷ 5 ∷ 6 ∷ 7 ∷ 8 ∷ []) status)
   -- 4 and 8: the files are refused, or under `audit` an entry of the trail does not hold. Nothing is done but the line
-  pub file : ForTwo c (λ e. (why : TwinRefusal) → RefusesTwo e c.twin why → IsOneOf (status_of_two why ∷ 5 ∷ 6 ∷ 7 ∷ []) status × (IsTrue c.twin.told → SaysPartTwo (twin_line why) c.twin b))
+  pub file : ForTwo c (λ e. (why : FileRefusal) → RefusesTwo e c.twin why → IsOneOf (status_of_file why ∷ 5 ∷ 6 ∷ 7 ∷ []) status × (IsTrue c.twin.told → SaysPartTwo (file_line why) c.twin b))
   pub file_only : ForTwo c (λ e. IsOneOf (4 ∷ 8 ∷ []) status → SaysWhyTwo e status c.twin b)
   -- 0: all was done. Under `gen` and `run` the lines of the copies were sent with those of the acts, each half that is not
   -- lost has the last copy, and whatever files a stop leaves then, the copy that counts has the last tables
@@ -128,6 +128,8 @@ pub record AnswersTwo (c : TwinCall) (r : RoomState) (b : Both) (la lb : ℕ →
   -- 5: a call of the line failed, or of both halves, or of one half before a byte was sent
   pub device : status ≡ 5 → FaultsTwo c.twin b
   pub device_told : ForTwoErrand c (λ e. IsTrue c.twin.told → status ≡ 5 → FailsTwo c.twin b)
+  -- at any other status no fault is told as another answer, whatever the texts ask for, and whatever room and twin tell
+  pub device_fine : (status ≡ 5 → ⊥) → FineTwo c.twin b
   -- 6: the room failed, and at any other status it did not; over a sure room a text is not there. Nothing is done
   pub room : status ≡ 6 → Rose c.room.faults r.faults
   pub room_told : (status ≡ 6 → ⊥) → NoReadFailed c.room r

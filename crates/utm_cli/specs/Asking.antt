@@ -2,8 +2,8 @@
 use Rattle.std.specs.Prelude.{◌≡◌, ◌≢◌, ◌⊎◌, ◌≤◌, ◌<◌, ◌^◌, ℕ, Bool, true, false, IsTrue, List, [], length, sum_by, Option, Some, None, IsSome, Result, Ok, Err}
 use Rattle.kd_base.specs.Limits.{longest_text}
 use Rattle.kd_device.specs.Room.{RoomState, text_of}
-use Rattle.application_check.specs.Fitted.{IsFit}
-use Rattle.application_check.specs.Soundness.{AreNamed}
+use Rattle.application_types.specs.Fitted.{IsFit}
+use Rattle.application_types.specs.Soundness.{AreNamed}
 use Rattle.application_read.specs.declared.application.Application.{Application as Made}
 use Rattle.application_read.specs.Texts.{TextsGenerate, TextsHaveFault}
 use Rattle.laws_of_runs.specs.Applied.{applied}

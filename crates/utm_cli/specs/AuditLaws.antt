@@ -3,6 +3,7 @@ use Rattle.std.proofs.Common.{◌≡◌, ◌∙◌, ℕ, length, refl, sym, ap, 
 use Rattle.std.proofs.lemmas.Option.{same_Some}
 use Rattle.audit_trail.specs.declared.entry.Trail.{Trail as Kept}
 use Rattle.kdcfile_update.specs.Updating.{Stored}
+use Rattle.kdcs_types.specs.Tables.{TableRows}
 use Rattle.refusals.specs.declared.error.FileRefusal.{FileRefusal}
 use Rattle.refusals.specs.declared.error.FileRefusal.TheVariants as why
 use Rattle.trail_run.specs.Auditing.{IsJudged, TrailsAreJudgedOnce}
@@ -13,9 +14,9 @@ use Rattle.utm_cli.specs.Doing.{HoldsAll, AuditRefuses, own, entry_count}
 use Rattle.utm_cli.specs.Parts.{Finds}
 
 -- what was found, where it is no entry that differs
-pub holds_of : (e : Errand) (v : Verdict) → Finds e v → ((n : ℕ) → v ≡ Differs n → ⊥) → (s : Stored) × HoldsAll e s × (v ≡ Holds (entry_count e.trail))
+pub holds_of : (e : Errand) (v : Verdict) → Finds e v → ((n : ℕ) → v ≡ Differs n → ⊥) → (t : TableRows) × HoldsAll e (own e t) × (v ≡ Holds (entry_count e.trail))
 holds_of e (Holds k) found none = (
-  own e found.0.start,
+  found.0.start,
   record { trail = found.0; is = found.1; start = refl; holds = found.2.0 },
   ap (λ (n : ℕ). Holds n) (found.2.1 ∙ sym (ap entry_count found.1)),
 )
@@ -27,26 +28,13 @@ module _ (once : TrailsAreJudgedOnce) (e : Errand) where
       let same : h.0 ≡ k.0 = same_Some h.0 k.0 (sym h.1 ∙ k.1) in
       once (app_of e) k.0 one other (subst (λ (t : Kept). IsJudged (app_of e) t one) same h.2) k.2
 
-  -- the number of an entry that differs, and back
-  differing : (r : FileRefusal) → AuditRefuses e r → (n : ℕ) × Finds e (Differs n) × (why.Differs n ≡ r)
-  differing why.NotKdcfile h = absurd h
-  differing (why.OtherGeneration stored) h = absurd h
-  differing (why.OtherBlksize n) h = absurd h
-  differing (why.SmallerPool n) h = absurd h
-  differing (why.TooManyGssbs n) h = absurd h
-  differing (why.TooLarge n) h = absurd h
-  differing (why.Differs n) h = (n, h, refl)
-
   pub holds_or_differs : (s : Stored) (r : FileRefusal) → HoldsAll e s → AuditRefuses e r → ⊥
   holds_or_differs s r h refuses =
-      let d = differing r refuses in
-      let no : Holds (length h.trail.entries) ≡ Differs d.0 = found_once (Holds (length h.trail.entries)) (Differs d.0) (h.trail, h.is, (h.holds, refl)) d.1 in
+      let no : Holds (length h.trail.entries) ≡ Differs refuses.0 = found_once (Holds (length h.trail.entries)) (Differs refuses.0) (h.trail, h.is, (h.holds, refl)) refuses.2 in
       cc
 
   pub differs_once : (r q : FileRefusal) → AuditRefuses e r → AuditRefuses e q → r ≡ q
   differs_once r q h k =
-      let first = differing r h in
-      let second = differing q k in
-      let one : Differs first.0 ≡ Differs second.0 = found_once (Differs first.0) (Differs second.0) first.1 second.1 in
-      let number : first.0 ≡ second.0 = cc in
-      sym first.2 ∙ ap (λ (n : ℕ). why.Differs n) number ∙ second.2
+      let one : Differs h.0 ≡ Differs k.0 = found_once (Differs h.0) (Differs k.0) h.2 k.2 in
+      let number : h.0 ≡ k.0 = cc in
+      h.1 ∙ ap (λ (n : ℕ). why.Differs n) number ∙ sym k.1

@@ -5,9 +5,9 @@ use Rattle.kd_device.specs.Twin.{Both, disk_of, half_state}
 use Rattle.kd_device.specs.declared.half.Half.{Half}
 use Rattle.kd_device.specs.declared.half.Half.TheVariants.{Second}
 use Rattle.device_acts.specs.Said.{Said, SaidPart}
-use Rattle.refusals.specs.Lines.{refusal_line}
-use Rattle.refusals.specs.Statuses.{IsOneOf, status_of}
-use Rattle.utm_cli.specs.PromiseTwo.{FrameTwin, SaidTwo, SameNamesTwo, SaysPartTwo, status_of_two, twin_line}
+use Rattle.refusals.specs.Lines.{file_line, refusal_line}
+use Rattle.refusals.specs.Statuses.{IsOneOf, status_of, status_of_file}
+use Rattle.utm_cli.specs.PromiseTwo.{FrameTwin, SaidTwo, SameNamesTwo, SaysPartTwo}
 use Rattle.utm_cli.specs.Words.{usage_line}
 use Rattle.utm_cli.specs.declared.refusing.Cause.{Cause}
 use Rattle.utm_cli.specs.declared.refusing.Cause.TheVariants.{Words, Texts, Files}
@@ -37,10 +37,10 @@ pub record SendsRefusalTwo (status : ℕ) (line : List ℕ) (a b : Both) (ended 
 abbrev pub line_for : Cause → List ℕ
 line_for Words = usage_line
 line_for (Texts why) = refusal_line why
-line_for (Files why) = twin_line why
+line_for (Files why) = file_line why
 
 -- its status
 abbrev pub status_for : Cause → ℕ
 status_for Words = 1
 status_for (Texts why) = status_of why
-status_for (Files why) = status_of_two why
+status_for (Files why) = status_of_file why

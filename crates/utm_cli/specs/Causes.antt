@@ -4,6 +4,8 @@ use Rattle.kd_device.specs.declared.error.DeviceError.TheVariants as device
 use Rattle.kdcfile_update.specs.declared.kd_update.error.UpdateError.TheVariants as cause
 use Rattle.device_acts.specs.declared.warm_start.error.OpenError.{OpenError}
 use Rattle.device_acts.specs.declared.warm_start.error.OpenError.TheVariants as opening
+use Rattle.kdcfile_double.specs.declared.error.TwinOpenError.{TwinOpenError}
+use Rattle.kdcfile_double.specs.declared.error.TwinOpenError.TheVariants as twin
 use Rattle.kdcfile_update.specs.declared.error.CarryError.{CarryError}
 use Rattle.kdcfile_update.specs.declared.error.CarryError.TheVariants as carrying
 use Rattle.refusals.specs.declared.error.FileRefusal.TheVariants as why
@@ -19,6 +21,13 @@ of_open opening.NotKdcfile = Refused why.NotKdcfile
 of_open (opening.OtherGeneration stored) = Refused (why.OtherGeneration stored)
 of_open opening.Failed = Failed
 of_open opening.Memory = Memory
+
+abbrev pub of_twin : TwinOpenError → CallError
+of_twin twin.NotKdcfile = Refused why.NotKdcfile
+of_twin (twin.OtherGeneration stored) = Refused (why.OtherGeneration stored)
+of_twin (twin.Spent n) = Refused why.SequenceSpent
+of_twin twin.Failed = Failed
+of_twin twin.Memory = Memory
 
 abbrev pub of_carry : CarryError → CallError
 of_carry (carrying.Refused cause.NotKdcfile) = Refused why.NotKdcfile

@@ -1,5 +1,5 @@
 -- What a call does, once its texts are read, over its KDCFILE.
-use Rattle.std.specs.Prelude.{◌≡◌, ⊤, ℕ, List, [], ◌∷◌, length, Option, Some, None}
+use Rattle.std.specs.Prelude.{◌≡◌, ⊤, ◌⊎◌, ℕ, List, [], ◌∷◌, length, Option, Some, None}
 use Rattle.kd_records.specs.Identity.{Identity}
 use Rattle.kdcs_types.specs.declared.act.Act.{Act}
 use Rattle.kdcs_types.specs.declared.act.Act.TheVariants.{Emit}
@@ -12,7 +12,7 @@ use Rattle.kdcfile_update.specs.Carrying.{carried}
 use Rattle.kdcfile_update.specs.declared.kd_update.error.UpdateError.TheVariants as cause
 use Rattle.kdcfile_update.specs.Updating.{Stored, Takes, RefusesAs, report_of as update_report}
 use Rattle.refusals.specs.declared.error.FileRefusal.{FileRefusal}
-use Rattle.refusals.specs.declared.error.FileRefusal.TheVariants.{NotKdcfile, OtherGeneration, OtherBlksize, SmallerPool, TooManyGssbs, TooLarge, Differs}
+use Rattle.refusals.specs.declared.error.FileRefusal.TheVariants.{NotKdcfile, OtherGeneration, OtherBlksize, SmallerPool, TooManyGssbs, TooLarge, SequenceSpent, TwoCopies, Differs}
 use Rattle.audit_trail.specs.declared.entry.Trail.{Trail as Kept}
 use Rattle.trail_run.specs.InTurn.{AllHold}
 use Rattle.trail_run.specs.Auditing.{IsFirstToDiffer, verdict_line}
@@ -91,13 +91,8 @@ IsOverFile (Make n) = ⊥
 
 -- why bytes are not opened
 abbrev pub OpeningRefuses : Errand → (bytes : List ℕ) → FileRefusal → Type 0
-OpeningRefuses e bytes NotKdcfile = IsRefused e.application.generation e.fingerprint bytes
-OpeningRefuses e bytes (OtherGeneration stored) = IsOfOtherTexts stored e.fingerprint bytes
-OpeningRefuses e bytes (OtherBlksize n) = ⊥
-OpeningRefuses e bytes (SmallerPool n) = ⊥
-OpeningRefuses e bytes (TooManyGssbs n) = ⊥
-OpeningRefuses e bytes (TooLarge n) = ⊥
-OpeningRefuses e bytes (Differs n) = ⊥
+OpeningRefuses e bytes why =
+    ((why ≡ NotKdcfile) × IsRefused e.application.generation e.fingerprint bytes) ⊎ ((stored : List ℕ) × (why ≡ OtherGeneration stored) × IsOfOtherTexts stored e.fingerprint bytes)
 
 -- why what bytes stand for is not carried
 abbrev pub UpdateRefuses : Errand → (bytes : List ℕ) → FileRefusal → Type 0
@@ -107,6 +102,8 @@ UpdateRefuses e bytes (OtherBlksize n) = RefusesAs e.application.generation e.fi
 UpdateRefuses e bytes (SmallerPool n) = RefusesAs e.application.generation e.fingerprint bytes (cause.SmallerPool n)
 UpdateRefuses e bytes (TooManyGssbs n) = RefusesAs e.application.generation e.fingerprint bytes (cause.TooManyGssbs n)
 UpdateRefuses e bytes (TooLarge n) = RefusesAs e.application.generation e.fingerprint bytes (cause.TooLarge n)
+UpdateRefuses e bytes SequenceSpent = ⊥
+UpdateRefuses e bytes TwoCopies = ⊥
 UpdateRefuses e bytes (Differs n) = ⊥
 
 -- the entry with this number is the first one of the trail that does not hold
@@ -115,13 +112,7 @@ DiffersAt e number = (t : Kept) × (e.trail ≡ Some t) × IsFirstToDiffer (app_
 
 -- why a trail does not hold
 abbrev pub AuditRefuses : Errand → FileRefusal → Type 0
-AuditRefuses e NotKdcfile = ⊥
-AuditRefuses e (OtherGeneration stored) = ⊥
-AuditRefuses e (OtherBlksize n) = ⊥
-AuditRefuses e (SmallerPool n) = ⊥
-AuditRefuses e (TooManyGssbs n) = ⊥
-AuditRefuses e (TooLarge n) = ⊥
-AuditRefuses e (Differs n) = DiffersAt e n
+AuditRefuses e why = (number : ℕ) × (why ≡ Differs number) × DiffersAt e number
 
 abbrev pub RefusesBy : Word → Errand → (bytes : List ℕ) → FileRefusal → Type 0
 RefusesBy Gen e bytes why = OpeningRefuses e bytes why
@@ -145,6 +136,10 @@ abbrev pub entry_count : Option Kept → ℕ
 entry_count None = 0
 entry_count (Some t) = length t.entries
 
+-- the line of a trail that holds
+abbrev pub held_line : Errand → List ℕ
+held_line e = verdict_line (Holds (entry_count e.trail))
+
 -- the report of `gen`, the trace of the script's commands, the list of `show`, the report of `update`, the text of `trail`, the line of a trail that holds, or the report of `make`
 abbrev pub acts_by : Word → Errand → Stored → List Act
 acts_by Gen e s = report e.application.generation
@@ -152,7 +147,7 @@ acts_by Run e s = trace (app_of e) s.tables e.commands
 acts_by Show e s = Emit (listing s.tables) ∷ []
 acts_by Update e s = update_report e.application.generation e.fingerprint s
 acts_by Trail e s = Emit (trail_of e s.tables) ∷ []
-acts_by Audit e s = Emit (verdict_line (Holds (entry_count e.trail))) ∷ []
+acts_by Audit e s = Emit (held_line e) ∷ []
 acts_by (Make n) e s = Emit (report_of n (app_of e) e.commands) ∷ []
 
 -- the acts of an errand from what is stored

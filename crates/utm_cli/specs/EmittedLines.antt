@@ -1,7 +1,7 @@
 -- What is sent in a run is lines: each Emit has one line feed, at its end, so line feeds count the Emits.
 use Rattle.std.specs.Prelude.{◌≡◌, ◌==◌, not, IsTrue, List, count_by, All}
 use Rattle.std.specs.List.{list_all}
-use Rattle.application_check.specs.Soundness.{AreNamed}
+use Rattle.application_types.specs.Soundness.{AreNamed}
 use Rattle.kdcs_types.specs.declared.act.Act.{Act}
 use Rattle.kdcs_types.specs.declared.act.Act.TheVariants.{Commit, Emit}
 use Rattle.kdcs_types.specs.Tables.{TableRows, IsSortedTables}

@@ -5,7 +5,6 @@ pub mod Causes
 pub mod Doing
 pub mod Promise
 pub mod Parts
-pub mod TwinCauses
 pub mod DoingTwo
 pub mod PromiseTwo
 pub mod OpeningTwo

@@ -1,7 +1,7 @@
 -- What the made texts say: the made application, and its script.
 use Rattle.std.specs.Prelude.{◌≡◌, ℕ, List, Ok}
 use Rattle.application_types.specs.Statements.{IsWithin}
-use Rattle.application_check.specs.Fitted.{FittedUnits}
+use Rattle.application_types.specs.Fitted.{FittedUnits}
 use Rattle.application_read.specs.declared.application.Application.{Application as Read}
 use Rattle.application_read.specs.Texts.{TextsGenerate}
 use Rattle.laws_of_runs.specs.Applied.{applied}

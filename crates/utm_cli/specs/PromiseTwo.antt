@@ -15,10 +15,10 @@ use Rattle.kdcfile_copies.specs.Copies.{AtMost, Below, IsCopyOf, IsNoCopy}
 use Rattle.kdcfile_copies.specs.Beside.{file_of}
 use Rattle.kdcfile_double.specs.Mended.{BothRest}
 use Rattle.kdcfile_double.specs.Opening.{AreEmpty, SameFiles}
-use Rattle.kdcfile_double.specs.Twice.{RoseAt}
+use Rattle.kdcfile_double.specs.Twice.{RoseAt, SameFaultsAt}
 use Rattle.refusals.specs.Lines.{file_line}
-use Rattle.refusals.specs.Statuses.{IsOneOf}
-use Rattle.refusals.specs.declared.error.FileRefusal.TheVariants as why
+use Rattle.refusals.specs.Statuses.{IsOneOf, status_of_file}
+use Rattle.refusals.specs.declared.error.FileRefusal.{FileRefusal}
 use Rattle.refusals.specs.declared.error.Refusal.{Refusal}
 use Rattle.twin_run.specs.Running.{CountsAs, IsCopyOfTables, IsLastCopy, with_copies}
 use Rattle.utm_cli.specs.Asking.{Errand, Reading, ReadsForTwo}
@@ -26,8 +26,6 @@ use Rattle.utm_cli.specs.Promise.{AsksMake, AsksNothing, AuditsOwn, Request}
 use Rattle.utm_cli.specs.Words.{file_name}
 use Rattle.utm_cli.specs.declared.words.Word.{Word}
 use Rattle.utm_cli.specs.declared.words.Word.TheVariants.{Gen, Run, Show, Update, Trail, Audit, Make}
-use Rattle.utm_cli.specs.declared.twin.error.TwinRefusal.{TwinRefusal}
-use Rattle.utm_cli.specs.declared.twin.error.TwinRefusal.TheVariants.{NotKdcfile, OtherGeneration, Spent, Double, Differs}
 use Rattle.utm_cli.specs.DoingTwo.{RefusesTwo, StartsTwo, acts_two, identity_of_two}
 
 -- ---- a call
@@ -85,24 +83,6 @@ ForTwoFiles c P = IsTrue c.room.told → IsTrue c.twin.told → (e : Errand) →
 -- what holds of the fault of the third text of a call over two copies
 abbrev pub ForTwoRefusal : TwinCall → (Refusal → Type 0) → Type 0
 ForTwoRefusal c P = IsTrue c.room.told → (why : Refusal) → ReadsTwo c.words c.room (Err why) → P why
-
--- ---- why it is refused
-
--- the line of a refusal
-abbrev pub twin_line : TwinRefusal → List ℕ
-twin_line NotKdcfile = file_line why.NotKdcfile
-twin_line (OtherGeneration stored) = file_line (why.OtherGeneration stored)
-twin_line Spent = codes "KDCFILE SEQUENCE SPENT\n"
-twin_line Double = codes "KDCFILE IS DOUBLE\n"
-twin_line (Differs n) = file_line (why.Differs n)
-
--- its status
-abbrev pub status_of_two : TwinRefusal → ℕ
-status_of_two NotKdcfile = 4
-status_of_two (OtherGeneration stored) = 4
-status_of_two Spent = 4
-status_of_two Double = 4
-status_of_two (Differs n) = 8
 
 -- ---- a cut
 
@@ -199,6 +179,11 @@ FailsTwo a b =
 abbrev pub FaultsTwo : (a b : Both) → Type 0
 FaultsTwo a b = Rose a.line_faults b.line_faults ⊎ RoseAt First a b ⊎ RoseAt Second a b
 
+-- what calls failed is no fault of the whole: on some half none did, and none of the line, unless one on a half did
+pub record FineTwo (a b : Both) : Type 0 where
+  pub spared : (half : Half) × SameFaultsAt half a b
+  pub line : (b.line_faults ≡ a.line_faults) ⊎ ((half : Half) × RoseAt half a b)
+
 -- ---- names
 
 -- the name of the second half's file
@@ -259,7 +244,7 @@ pub record SaysPartTwo (line : List ℕ) (a b : Both) : Type 0 where
 
 -- two files are refused, or the trail does not hold, and this is the status; the line that says why was sent
 abbrev pub SaysWhyTwo : Errand → (code : ℕ) → (a b : Both) → Type 0
-SaysWhyTwo e code a b = (why : TwinRefusal) × RefusesTwo e a why × (code ≡ status_of_two why) × (IsTrue a.told → SaidTwo (twin_line why) a b)
+SaysWhyTwo e code a b = (why : FileRefusal) × RefusesTwo e a why × (code ≡ status_of_file why) × (IsTrue a.told → SaidTwo (file_line why) a b)
 
 -- where no call of the twin failed and no read did, or the room is sure, all was done or memory ran out
 abbrev pub CompletesTwo : (code : ℕ) → (r s : RoomState) → (a b : Both) → Type 0

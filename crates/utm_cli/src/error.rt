@@ -1,11 +1,12 @@
 //! Why a call did not do what is asked for.
 ghost use Rattle.std.specs.Prelude.{◌≡◌};
-ghost use Rattle.utm_cli.specs.Causes.{of_carry, of_device, of_open};
+ghost use Rattle.utm_cli.specs.Causes.{of_carry, of_device, of_open, of_twin};
 ghost use Rattle.utm_cli.specs.declared.error.CallError.TheVariants as errors;
 
 use device_acts::warm_start::OpenError;
 use kd_base::OutOfMemory;
 use kd_device::DeviceError;
+use kdcfile_double::TwinOpenError;
 use kdcfile_update::CarryError;
 use kdcfile_update::kd_update::UpdateError;
 use refusals::FileRefusal;
@@ -16,8 +17,8 @@ use thiserror::Error;
 pub(crate) enum CallError {
     #[error("the KDCFILE is refused, or the trail does not hold")]
     Refused(FileRefusal),
-    /// A call of the disk or the line failed.
-    #[error("the device failed")]
+    /// Calls of the disks or the line failed, so that it could not go on.
+    #[error("the disks or the line failed")]
     Failed,
     #[error("out of memory")]
     Memory,
@@ -53,6 +54,22 @@ impl From<OpenError> for CallError {
             }
             OpenError::Failed => CallError::Failed,
             OpenError::Memory => CallError::Memory,
+        }
+    }
+}
+
+impl From<TwinOpenError> for CallError {
+    ghost from_gives = { λ e r. r ≡ of_twin e };
+
+    fn from(e: TwinOpenError) -> Self {
+        match e {
+            TwinOpenError::NotKdcfile => CallError::Refused(FileRefusal::NotKdcfile),
+            TwinOpenError::OtherGeneration(stored) => {
+                CallError::Refused(FileRefusal::OtherGeneration(stored))
+            }
+            TwinOpenError::Spent(_) => CallError::Refused(FileRefusal::SequenceSpent),
+            TwinOpenError::Failed => CallError::Failed,
+            TwinOpenError::Memory => CallError::Memory,
         }
     }
 }

@@ -2,7 +2,7 @@
 ghost use Rattle.std.specs.Prelude.{◌≡◌, IfOk};
 ghost use Rattle.utm_cli.specs.Report.{name_line, counts_line, passed_line, report};
 
-use application_check::kdcdef_check::Generation;
+use application_types::generation::Generation;
 use application_types::kdcdef_types::Counts;
 use kd_base::{Bytes, OutOfMemory};
 use kdcs_types::{Act, Acts};

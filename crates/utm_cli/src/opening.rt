@@ -6,7 +6,7 @@ ghost use Rattle.laws_of_states.specs.Suits.{Suits};
 ghost use Rattle.device_acts.specs.{Stands.{AreTables, KeepsTables, identity_for}, Opening.{StartsFrom, IsRefused, IsOfOtherTexts, opening_most}};
 ghost use Rattle.utm_cli.specs.{Promise.{MayAttach}, Parts.{LeavesOpening}};
 
-use application_check::kdcdef_check::Generation;
+use application_types::generation::Generation;
 use device_acts::warm_start::{OpenError, open_tables, read_tables};
 use kd_device::Device;
 use kdcfile_store::PagedStore;

@@ -1,5 +1,5 @@
 //! What a call does over the KDCFILE.
-ghost use Rattle.std.specs.Prelude.{◌≡◌, ◌++◌, ◌∷◌, [], List, ℕ, IsTrue, IfOk, OnOk, OnErr, IsErrOf};
+ghost use Rattle.std.specs.{Prelude.{◌≡◌, ◌++◌, ◌∷◌, [], List, ℕ, IsTrue, IfOk, OnOk, OnErr, IsErrOf}, String.{string_bytes}};
 ghost use Rattle.kd_device.specs.{Device.{Frame, SameFaults, SameNames}, Rest.{Rests}};
 ghost use Rattle.kdcfile_store.specs.{Kept.{IsKept}, Paged.{HasFile}};
 ghost use Rattle.kdcs_types.specs.Tables.{TableRows};
@@ -7,12 +7,11 @@ ghost use Rattle.laws_of_states.specs.Suits.{Suits};
 ghost use Rattle.device_acts.specs.Stands.{AreTables, KeepsTables};
 ghost use Rattle.kdcfile_update.specs.Updating.{Stored, UpdateWrites};
 ghost use Rattle.utm_cli.specs.Asking.{CanRun, app_of, audit_errand, errand_for, gen_errand, looking_errand, making, one_errand, run_errand, storing_errand, task_word, update_errand};
-ghost use Rattle.utm_cli.specs.Doing.{Opens, OpeningRefuses, UpdateTakes, UpdateRefuses, HoldsAll, AuditRefuses, Starts, Refuses, identity_of, own, entry_count};
+ghost use Rattle.utm_cli.specs.Doing.{Opens, OpeningRefuses, UpdateTakes, UpdateRefuses, HoldsAll, AuditRefuses, Starts, Refuses, held_line, identity_of, own};
 ghost use Rattle.utm_cli.specs.Promise.{AttachedBy, CallFailed, HasRun, LeavesFile, LeavesLines, MayAttach, MayHandOn, SaysFront, SaysWhy, Tells, WritesFor};
 ghost use Rattle.utm_cli.specs.Parts.{DoesOne, EndsOne, ErrandHalts, ErrandStops, ErrandWrites, Finds, HaltsFrom, HasTrailBytes, LooksBytes, LooksFront, RanActs, RanOpened};
 ghost use Rattle.utm_cli.specs.Parts.{RanUpdate, StopsFrom, StopsInCut, StopsInUpdate, StopsOverStore, StoreWrites, WithinErrand, looked_by};
 ghost use Rattle.refusals.specs.{declared.error.FileRefusal.{FileRefusal}, Lines.{file_line}, Statuses.{IsOneOf, status_of_file}};
-ghost use Rattle.trail_run.specs.{Auditing.{verdict_line}, declared.trail_words.verdict.Verdict.TheVariants.{Holds}};
 ghost use Rattle.device_acts.specs.Said.{SameDisk, Said, SaidPart};
 ghost use Rattle.utm_cli.specs.{MadeReport.{report_of}, Words.{file_name}};
 
@@ -224,12 +223,29 @@ fn look_over<D: Device>(
 }
 
 /// What an audit of the trail finds.
-pub(crate) fn verdict_of(alloc: Global, work: &Work, trail: Trail) -> Result<Verdict, OutOfMemory>
+fn verdict_of(alloc: Global, work: &Work, trail: Trail) -> Result<Verdict, OutOfMemory>
     requires can { CanRun (audit_errand work.now trail) }
     ensures { IfOk result (Finds (audit_errand work.now trail)) }
 {
     let application = &work.application;
     audit_trail(alloc, &application.generation, &application.units, trail)
+}
+
+/// The line of the trail, all of whose entries hold.
+pub(crate) fn audit_line(alloc: Global, work: &Work, trail: Trail) -> Result<String, CallError>
+    requires can { CanRun (audit_errand work.now trail) }
+    ensures line { IfOk result (λ line. (t : TableRows) × HoldsAll (audit_errand work.now trail) (own (audit_errand work.now trail) t) × (string_bytes line ≡ held_line (audit_errand work.now trail))) }
+    ensures refused { (why : FileRefusal) → IsErrOf result (CallError.Refused why) → AuditRefuses (audit_errand work.now trail) why }
+    ensures fine { IsErrOf result CallError.Failed → ⊥ }
+{
+    let verdict = verdict_of(alloc, work, trail)?;
+    if let Verdict::Differs(number) = verdict {
+        return Err(CallError::Refused(FileRefusal::Differs(number)));
+    }
+    let Ok(line) = verdict_line(alloc, &verdict) else {
+        return Err(CallError::Memory);
+    };
+    Ok(line)
 }
 
 /// The line of the trail, all of whose entries hold. No KDCFILE is looked into.
@@ -240,24 +256,18 @@ fn audit<D: Device>(
     trail: Trail,
 ) -> Result<(), CallError>
     requires can { CanRun (audit_errand work.now trail) }
-    ensures done { OnOk result ((s : Stored) × HoldsAll (audit_errand work.now trail) s × (IsTrue (D.state device.old).told → Said (verdict_line (Holds (entry_count (audit_errand work.now trail).trail))) (D.state device.old) (D.state device.new))) }
+    ensures done { OnOk result ((s : Stored) × HoldsAll (audit_errand work.now trail) s × (IsTrue (D.state device.old).told → Said (held_line (audit_errand work.now trail)) (D.state device.old) (D.state device.new))) }
     ensures refused { (why : FileRefusal) → IsErrOf result (CallError.Refused why) → AuditRefuses (audit_errand work.now trail) why }
     ensures fine { (IsErrOf result CallError.Failed → ⊥) → SameFaults (D.state device.old) (D.state device.new) }
     ensures failed { IsErrOf result CallError.Failed → CallFailed (D.state device.old) (D.state device.new) }
 
     // Nothing is said of a trail that does not hold, and else a front of the line.
     ensures still { IsTrue (D.state device.old).told → ((s : Stored) → HoldsAll (audit_errand work.now trail) s → ⊥) → Rests (D.state device.old) (D.state device.new) (D.leaves device.old) (D.leaves device.new) }
-    ensures front { IsTrue (D.state device.old).told → SaysFront (verdict_line (Holds (entry_count (audit_errand work.now trail).trail))) (D.state device.old) (D.state device.new) (D.leaves device.old) (D.leaves device.new) }
+    ensures front { IsTrue (D.state device.old).told → SaysFront (held_line (audit_errand work.now trail)) (D.state device.old) (D.state device.new) (D.leaves device.old) (D.leaves device.new) }
     ensures frame { Frame (D.state device.old) (D.state device.new) }
     ensures names { SameNames (D.state device.old) (D.state device.new) }
 {
-    let verdict = verdict_of(alloc, work, trail)?;
-    if let Verdict::Differs(number) = verdict {
-        return Err(CallError::Refused(FileRefusal::Differs(number)));
-    }
-    let Ok(line) = verdict_line(alloc, &verdict) else {
-        return Err(CallError::Memory);
-    };
+    let line = audit_line(alloc, work, trail)?;
     Ok(say(device, line.as_bytes())?)
 }
 

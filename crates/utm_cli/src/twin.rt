@@ -5,9 +5,7 @@
 
 mod beside;
 mod double;
-mod error;
 mod opening;
 mod top;
 
-pub(crate) use error::TwinRefusal;
 pub use top::utm_twin;

@@ -14,7 +14,7 @@ use Rattle.application_types.specs.declared.kdcdef_types.limits.Counts.{Counts}
 use Rattle.application_types.specs.Statements.{AreRead, EndsOnce, passed_count}
 use Rattle.application_check.specs.declared.kdcdef_check.tables.Tables.{Tables}
 use Rattle.application_check.specs.declared.kdcdef_check.tally.Tally.{Tally}
-use Rattle.application_check.specs.Soundness.{IsSound}
+use Rattle.application_types.specs.Soundness.{IsSound}
 use Rattle.application_check.specs.Generating.{generated, max_given, with_defaults, double_said, counts_of}
 use Rattle.application_check.specs.Faults.{line_of, number_of, AreFaultless, IsFirstFault, Gives}
 use Rattle.application_check.specs.Steps.{AreFilled, AllNamed, IsTallyOf, counts_in, made_of}

@@ -8,7 +8,7 @@ use Rattle.application_check.specs.declared.kdcdef_check.fault.CheckFault.{Check
 use Rattle.application_check.specs.declared.kdcdef_check.fault.CheckFault.TheVariants.{NameTwice, NoProgram, NoLterm, LtermTwice, NoMax, ClassOfWrongKind, PoolTooSmall, NoUser, TooMany, NoKset}
 use Rattle.application_check.specs.declared.kdcdef_check.fault.CheckFault.TheVariants.{PoolForDouble, Memory}
 use Rattle.application_check.specs.Generating.{generated}
-use Rattle.application_check.specs.Faults.{kind_count, kind_of, line_of, number_of, HasFault, Stands}
+use Rattle.application_check.specs.Faults.{kind_count, kind_of, line_of, number_of, HasFault, SomeHasFault}
 use Rattle.application_check.specs.Steps.{earlier, IsFirstOf, AmongFirst, own_tests, own_fault, outer_tests, outer_fault, OwnFault, OuterFault}
 
 -- each test that is true shows such a fault
@@ -54,12 +54,12 @@ outer_first all i s =
     (refl, omega arith, (refl, omega arith, (refl, omega arith, (refl, omega arith, (refl, omega arith, (refl, omega arith, (refl, omega arith, tt)))))))
 
 -- the first of both passes is the first of all
-pub both_passes : (ss : List Statement) (a b : Option CheckFault) → IsFirstOf (AmongFirst ss (OwnFault ss) (length ss)) a → IsFirstOf (AmongFirst ss (OuterFault ss) (length ss)) b → IsFirstOf (Stands ss) (earlier a b)
+pub both_passes : (ss : List Statement) (a b : Option CheckFault) → IsFirstOf (AmongFirst ss (OwnFault ss) (length ss)) a → IsFirstOf (AmongFirst ss (OuterFault ss) (length ss)) b → IsFirstOf (SomeHasFault ss) (earlier a b)
 both_passes ss a b p q =
-    first_of_both line_of number_of (AmongFirst ss (OwnFault ss) (length ss)) (AmongFirst ss (OuterFault ss) (length ss)) (Stands ss) split
+    first_of_both line_of number_of (AmongFirst ss (OwnFault ss) (length ss)) (AmongFirst ss (OuterFault ss) (length ss)) (SomeHasFault ss) split
     (λ e h. (h.0, h.1, h.3, own_has ss h.0 h.1 e h.4)) (λ e h. (h.0, h.1, h.3, outer_has ss h.0 h.1 e h.4)) a b p q
   where
-    split : (e : CheckFault) → Stands ss e → AmongFirst ss (OwnFault ss) (length ss) e ⊎ AmongFirst ss (OuterFault ss) (length ss) e
+    split : (e : CheckFault) → SomeHasFault ss e → AmongFirst ss (OwnFault ss) (length ss) e ⊎ AmongFirst ss (OuterFault ss) (length ss) e
     split e h = elim (fault_tested ss h.0 h.1 e h.3) [
       | inl own ↦ inl (h.0, h.1, slice_get_within ss h.0 h.1 h.2, h.2, own)
       | inr outer ↦ inr (h.0, h.1, slice_get_within ss h.0 h.1 h.2, h.2, outer)

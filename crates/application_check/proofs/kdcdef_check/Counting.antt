@@ -6,7 +6,7 @@ use Rattle.application_types.specs.declared.kdcdef_types.entry.UserEntry.{UserEn
 use Rattle.application_types.specs.declared.kdcdef_types.statement.Said.{Said}
 use Rattle.application_types.specs.declared.kdcdef_types.statement.Said.TheVariants.{User, Passed}
 use Rattle.application_types.specs.declared.kdcdef_types.statement.Statement.{Statement}
-use Rattle.application_check.specs.Soundness.{restart_count}
+use Rattle.application_types.specs.Soundness.{restart_count}
 use Rattle.application_check.specs.Generating.{as_program, as_tac, as_user, as_pterm, as_lterm, as_passed, said_as, programs_said}
 use Rattle.application_check.specs.Faults.{kind_of, kind_count}
 use Rattle.application_check.specs.Steps.{is_restart}

@@ -20,8 +20,8 @@ use Rattle.application_check.specs.declared.kdcdef_check.gathered.Gathered.{Gath
 use Rattle.application_check.specs.declared.kdcdef_check.tables.Tables.{Tables}
 use Rattle.application_check.specs.declared.kdcdef_check.whole.Whole.{Whole}
 use Rattle.application_check.specs.Generating.{generated, max_given, with_defaults, double_said}
-use Rattle.application_check.specs.Faults.{is_end, line_of, number_of, HasFault, Stands, comes_first, AreFaultless, IsFirstFault}
-use Rattle.application_check.specs.Steps.{earlier, IsFirstOf, AmongFirst, OwnFault, OuterFault, HaveNamed, IsWhole, counts_in, made_of}
+use Rattle.application_check.specs.Faults.{is_end, line_of, number_of, HasFault, SomeHasFault, comes_first, AreFaultless, IsFirstFault}
+use Rattle.application_check.specs.Steps.{earlier, IsFirstOf, AmongFirst, OwnFault, OuterFault, HaveNamed, SaysTogether, counts_in, made_of}
 use Rattle.application_check.specs.Gathering.{IsBehind, WereGathered}
 use Rattle.application_check.proofs.kdcdef_check.Chains.{own_has, outer_has, fault_tested, both_passes}
 use Rattle.application_check.proofs.kdcdef_check.Filling.{named_names}
@@ -44,17 +44,17 @@ none_behind_end (x ∷ x2 ∷ xs) ys (suc i) s ends at end = none_behind_end (x2
 -- what was found against all statements, whichever these are
 abbrev pub Looked : Gathered → Whole → Option CheckFault → Type 0
 Looked g w b =
-    (all : List Statement) → HaveNamed g.tables.value (generated all) → ((i : ℕ) (s : Statement) → slice_get g.kept.items i ≡ Some s → is_end s.said ≡ true → IsWhole w all)
+    (all : List Statement) → HaveNamed g.tables.value (generated all) → ((i : ℕ) (s : Statement) → slice_get g.kept.items i ≡ Some s → is_end s.said ≡ true → SaysTogether w all)
     → IsFirstOf (AmongFirst g.kept.items (OuterFault all) (length g.kept.items)) b
 
-looked_at : (g : Gathered) (w : Whole) (b : Option CheckFault) (ss : List Statement) → Looked g w b → IsWhole w g.kept.items → WereGathered g ss → EndsOnce ss → IsFirstOf (AmongFirst g.kept.items (OuterFault ss) (length g.kept.items)) b
+looked_at : (g : Gathered) (w : Whole) (b : Option CheckFault) (ss : List Statement) → Looked g w b → SaysTogether w g.kept.items → WereGathered g ss → EndsOnce ss → IsFirstOf (AmongFirst g.kept.items (OuterFault ss) (length g.kept.items)) b
 looked_at g w b ss looked whole was ends = looked ss (named_names g.tables.value ss was.named_filled) at_end
   where
-    at_end : (i : ℕ) (s : Statement) → slice_get g.kept.items i ≡ Some s → is_end s.said ≡ true → IsWhole w ss
+    at_end : (i : ℕ) (s : Statement) → slice_get g.kept.items i ≡ Some s → is_end s.said ≡ true → SaysTogether w ss
     at_end i s at is =
         let none = none_behind_end g.kept.items was.later i s (subst EndsOnce was.all ends) at (end_is s.said is) in
         let all : ss ≡ g.kept.items = was.all ∙ ap (λ (later : List Statement). g.kept.items ++ later) none ∙ append-nil g.kept.items in
-        subst (IsWhole w) (sym all) whole
+        subst (SaysTogether w) (sym all) whole
 
 -- ---- both together
 
@@ -122,7 +122,7 @@ first_in_front xs ys f e b behind own outer is = ((found.0.0, found.0.1, found.0
 
 -- ---- what the check answers
 
-pub gathered_first : (g : Gathered) (w : Whole) (b found : Option CheckFault) (e : CheckFault) (ss : List Statement) → Looked g w b → IsWhole w g.kept.items → found ≡ earlier g.first b → found ≡ Some e → WereGathered g ss → EndsOnce ss → IsFirstFault ss e
+pub gathered_first : (g : Gathered) (w : Whole) (b found : Option CheckFault) (e : CheckFault) (ss : List Statement) → Looked g w b → SaysTogether w g.kept.items → found ≡ earlier g.first b → found ≡ Some e → WereGathered g ss → EndsOnce ss → IsFirstFault ss e
 gathered_first g w b found e ss looked whole is some was ends = by g.first refl
   where
     outer : IsFirstOf (AmongFirst g.kept.items (OuterFault ss) (length g.kept.items)) b
@@ -136,7 +136,7 @@ gathered_first g w b found e ss looked whole is some was ends = by g.first refl
         let all = all_kept g ss was none in
         let own = subst (λ (xs : List Statement). IsFirstOf (AmongFirst xs (OwnFault xs) (length xs)) g.first) (sym all) was.first in
         let against = subst (λ (xs : List Statement). IsFirstOf (AmongFirst xs (OuterFault ss) (length xs)) b) (sym all) outer in
-        subst (IsFirstOf (Stands ss)) answered (both_passes ss g.first b own against)
+        subst (IsFirstOf (SomeHasFault ss)) answered (both_passes ss g.first b own against)
     by (Some f) fault =
         let own = subst (IsFirstOf (AmongFirst g.kept.items (OwnFault g.kept.items) (length g.kept.items))) fault was.first in
         let against = subst (λ (xs : List Statement). IsFirstOf (AmongFirst g.kept.items (OuterFault xs) (length g.kept.items)) b) was.all outer in
@@ -149,7 +149,7 @@ pub record IsFree (g : Gathered) (ss : List Statement) : Type 0 where
   pub free : AreFaultless g.kept.items
   pub read : AreRead g.kept.items
 
-pub gathered_free : (g : Gathered) (w : Whole) (b found : Option CheckFault) (ss : List Statement) → Looked g w b → IsWhole w g.kept.items → found ≡ earlier g.first b → found ≡ None → WereGathered g ss → AreRead ss → IsFree g ss
+pub gathered_free : (g : Gathered) (w : Whole) (b found : Option CheckFault) (ss : List Statement) → Looked g w b → SaysTogether w g.kept.items → found ≡ earlier g.first b → found ≡ None → WereGathered g ss → AreRead ss → IsFree g ss
 gathered_free g w b found ss looked whole is none was read =
     let both = earlier_none line_of number_of g.first b (sym is ∙ none) in
     let all = all_kept g ss was both.0 in
@@ -157,13 +157,13 @@ gathered_free g w b found ss looked whole is none was read =
     record {
       all = all;
       none = both.0;
-      free = subst (IsFirstOf (Stands g.kept.items)) (sym is ∙ none) (both_passes g.kept.items g.first b was.first against);
+      free = subst (IsFirstOf (SomeHasFault g.kept.items)) (sym is ∙ none) (both_passes g.kept.items g.first b was.first against);
       read = subst AreRead all read;
     }
 
 -- what is found over the tables and statements that were gathered
 pub looked_over : (g : Gathered) (w : Whole) (b : Option CheckFault) (t : Tables) (xs : List Statement) → t ≡ g.tables.value → xs ≡ g.kept.items
-    → ((all : List Statement) → HaveNamed t (generated all) → ((i : ℕ) (s : Statement) → slice_get xs i ≡ Some s → is_end s.said ≡ true → IsWhole w all) → IsFirstOf (AmongFirst xs (OuterFault all) (length xs)) b)
+    → ((all : List Statement) → HaveNamed t (generated all) → ((i : ℕ) (s : Statement) → slice_get xs i ≡ Some s → is_end s.said ≡ true → SaysTogether w all) → IsFirstOf (AmongFirst xs (OuterFault all) (length xs)) b)
     → Looked g w b
 looked_over g w b t xs is_t is_xs looked = rw (is_t, is_xs) at looked
 

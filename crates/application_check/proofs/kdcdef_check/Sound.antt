@@ -20,7 +20,7 @@ use Rattle.application_types.specs.declared.kdcdef_types.statement.Statement.{St
 use Rattle.application_types.specs.Statements.{IsWithin, IsBlksize, IsMaxInRange, IsTacInRange, IsUserInRange, IsKeySetInRange, IsInRange, AreRead}
 use Rattle.application_types.specs.Generation.{Generated, entry_of, lterm_of}
 use Rattle.application_check.specs.declared.kdcdef_check.fault.CheckFault.TheVariants.{NoProgram, NoLterm, ClassOfWrongKind, NoKset}
-use Rattle.application_check.specs.Soundness.{AreLimits, IsSound, AreNamed, AreCounted, HasKeys, fits_kind}
+use Rattle.application_types.specs.Soundness.{AreLimits, IsSound, AreNamed, AreCounted, HasKeys, fits_kind}
 use Rattle.application_check.specs.Generating.{as_tac, as_user, as_pterm, as_lterm, as_class, as_kset, said_as, programs_said, nothing_given, operands_said, both_given, max_given, with_defaults}
 use Rattle.application_check.specs.Generating.{double_said, generated}
 use Rattle.application_check.specs.Faults.{lacks_program, lacks_lterm, lacks_keys, lacks_kset, has_other_class, AreFaultless}

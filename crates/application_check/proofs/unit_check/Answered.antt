@@ -13,7 +13,7 @@ use Rattle.application_types.specs.declared.unit_types.unit.Field.{Field}
 use Rattle.application_types.specs.UnitText.{UnitText, jump_of, label_place}
 use Rattle.application_check.specs.declared.unit_check.fault.FitFault.{FitFault}
 use Rattle.application_check.specs.declared.unit_check.fault.FitFault.TheVariants.{NoUnit, NoLabel, FieldPastArea, LiteralFollowUp, Memory}
-use Rattle.application_check.specs.Fitted.{FittedUnits, unit_named, IsInside, literal_follow_up, tac_in, IsFitted, AreFittedTo}
+use Rattle.application_types.specs.Fitted.{FittedUnits, unit_named, IsInside, literal_follow_up, tac_in, IsFitted, AreFittedTo}
 use Rattle.application_check.specs.FitFaults.{FieldHas, StatementHas, UnitHas, IsFirstInUnits, IsFirstWithout, HaveUnits, IsFirstFault, is_memory, Gives}
 use Rattle.application_check.proofs.unit_check.Order.{both_first}
 

@@ -10,13 +10,13 @@ use Rattle.kd_base.specs.FirstFaultsLaws.{first_of_both, first_as, earlier_none}
 use Rattle.application_types.specs.declared.kdcdef_types.entry.TacEntry.{TacEntry}
 use Rattle.application_types.specs.declared.kdcdef_types.limits.Limits.{Limits}
 use Rattle.application_types.specs.Generation.{Generated, entry_of}
-use Rattle.application_check.specs.Soundness.{IsSound}
+use Rattle.application_types.specs.Soundness.{IsSound}
 use Rattle.application_types.specs.declared.unit_types.action.UnitStatement.{UnitStatement}
 use Rattle.application_types.specs.declared.unit_types.unit.Field.{Field}
-use Rattle.application_types.specs.UnitText.{UnitText, jump_of, label_place, IsWhole}
+use Rattle.application_types.specs.UnitText.{UnitText, jump_of, label_place, IsSpellable}
 use Rattle.application_check.specs.declared.unit_check.fault.FitFault.{FitFault}
 use Rattle.application_check.specs.declared.unit_check.fault.FitFault.TheVariants.{NoUnit, NoLabel, FieldPastArea, LiteralFollowUp, Memory}
-use Rattle.application_check.specs.Fitted.{unit_named, area_len, IsInside, literal_follow_up, tac_in, IsFitted, AreFit}
+use Rattle.application_types.specs.Fitted.{unit_named, area_len, IsInside, literal_follow_up, tac_in, IsFitted, AreFit}
 use Rattle.application_check.specs.FitFaults.{line_of, number_of, FieldHas, LacksLabel, NamesNoTac, StatementHas, UnitHas, IsFirstInUnits, IsFirstWithout, HaveUnits, IsFirstFault}
 use Rattle.application_check.specs.Finding.{field_fault, fields_fault, label_fault, follow_up_fault, statement_fault, statements_fault, unit_fault, units_fault, lacking, fit_fault}
 use Rattle.application_check.proofs.unit_check.Order.{IsFirstOf, IsTold, told_first, not_told, first_of_all, none_of_all}
@@ -102,7 +102,7 @@ units_first g units = first_of_all (UnitHas g) (unit_fault g) (unit_first g) uni
 
 -- ---- where no fault was found
 
-unit_fits : (g : Generated) (unit : UnitText) → unit_fault g unit ≡ None → IsWhole unit → IsFitted g.limits g.tacs unit
+unit_fits : (g : Generated) (unit : UnitText) → unit_fault g unit ≡ None → IsSpellable unit → IsFitted g.limits g.tacs unit
 unit_fits g unit h whole =
     let both = earlier_none line_of number_of (fields_fault g.limits unit.fields) (statements_fault g.tacs unit) h in
     let statements = none_of_all (statement_fault g.tacs unit) unit.statements both.1 in
@@ -158,7 +158,7 @@ no_unit_lacks units programs h = elim (lacking_is units programs) [
   | inr is ↦ absurd (let e : Some (NoUnit is.0) ≡ None = sym is.1 ∙ h in cc)
 ]
 
-pub no_fault : (g : Generated) (units : List UnitText) → IsSound g → All IsWhole units → fit_fault g units ≡ None → HasNoFault g units
+pub no_fault : (g : Generated) (units : List UnitText) → IsSound g → All IsSpellable units → fit_fault g units ≡ None → HasNoFault g units
 no_fault g units sound whole h =
     let both = none_or (lacking units g.programs) (units_fault g units) h in
     let have = no_unit_lacks units g.programs both.0 in

@@ -1,16 +1,18 @@
 //! The check of the statements together.
 ghost use Rattle.std.specs.Prelude.{◌≡◌, ◌≢◌, ◌≤◌, List, IfOk, IfErr, Ok, Err};
-ghost use Rattle.application_types.specs.{Statements.{AreRead, passed_count}, declared.kdcdef_types.statement.Statement.{Statement}};
+ghost use Rattle.application_types.specs.{Soundness.{IsSound}, Statements.{AreRead, passed_count}, declared.kdcdef_types.statement.Statement.{Statement}};
 ghost use Rattle.application_check.specs.{declared.kdcdef_check.fault.CheckFault.{CheckFault}, declared.kdcdef_check.fault.CheckFault.TheVariants.{Memory}, Generating.{generated}};
-ghost use Rattle.application_check.specs.{Faults.{AreFaultless, IsFirstFault, Gives}, Gathering.{WereGathered, OfGathered}};
+ghost use Rattle.application_check.specs.{Faults.{AreFaultless, IsFirstFault, Gives}, Gathering.{WereGathered, OfGathered}, Steps.{made_of}};
 
 use crate::kdcdef_check::fault::{CheckFault, earlier};
 use crate::kdcdef_check::gathered::Gathered;
-use crate::kdcdef_check::generation::Generation;
 use crate::kdcdef_check::limits::limits_of;
 use crate::kdcdef_check::passes::first_outer_fault;
+use crate::kdcdef_check::tables::Tables;
 use crate::kdcdef_check::whole::Whole;
-use application_types::kdcdef_types::{Counts, Statement};
+use application_types::generation::{Generation, GenerationParts};
+use application_types::kdcdef_types::{Counts, Limits, Statement};
+use kd_base::OutOfMemory;
 use std::alloc::Global;
 
 fn passed_operands(statements: &[Statement]) -> u32
@@ -22,6 +24,34 @@ fn passed_operands(statements: &[Statement]) -> u32
         count += statement.passed;
     }
     count
+}
+
+// The generation of filled tables, limits, counts and the line of DOUBLE.
+fn generation_of(
+    alloc: Global,
+    tables: Tables,
+    limits: Limits,
+    counts: Counts,
+    double: Option<u32>,
+) -> Result<Generation, OutOfMemory>
+    requires { IsSound (made_of tables limits counts double) }
+    ensures { IfOk result (λ generation. generation ≡ made_of tables limits counts double) }
+{
+    let parts = GenerationParts {
+        limits,
+        programs: tables.programs,
+        tacs: tables.tacs,
+        users: tables.users,
+        pterms: tables.pterms,
+        lterms: tables.lterms,
+        tls: tables.tls,
+        uls: tables.uls,
+        classes: tables.classes,
+        ksets: tables.ksets,
+        counts,
+        double,
+    };
+    Generation::of(alloc, parts)
 }
 
 /// The generation of the statements that were gathered, or their first fault.
@@ -43,7 +73,7 @@ pub fn check(alloc: Global, gathered: Gathered) -> Result<Generation, CheckFault
         return Err(fault);
     }
     let counts = gathered.tally.counts(passed_operands(statements));
-    let generation = Generation::of(
+    let generation = generation_of(
         alloc,
         Box::into_inner(gathered.tables),
         limits_of(&whole.max),

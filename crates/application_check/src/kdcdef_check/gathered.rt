@@ -4,10 +4,10 @@ ghost use Rattle.application_types.specs.declared.kdcdef_types.statement.Stateme
 ghost use Rattle.application_check.specs.{Steps.{IsNamed}, Gathering.{may_be_named, IsBehind, WereGathered, IsGathered, OfGathered}};
 
 use crate::kdcdef_check::fault::CheckFault;
-use crate::kdcdef_check::hashing::NameHashing;
 use crate::kdcdef_check::own::own_fault;
 use crate::kdcdef_check::tables::Tables;
 use crate::kdcdef_check::tally::Tally;
+use application_types::generation::NameHashing;
 use application_types::kdcdef_types::{Said, Statement};
 use kd_base::OutOfMemory;
 use std::alloc::Global;

@@ -1,7 +1,7 @@
 //! The faults that show at a statement and those before it.
 ghost use Rattle.std.specs.Prelude.{◌≡◌};
-ghost use Rattle.application_types.specs.Generation.{Generated};
-ghost use Rattle.application_check.specs.{Soundness.{fits_kind}, Faults.{has_other_class}, Steps.{HaveNames, own_fault}};
+ghost use Rattle.application_types.specs.{Generation.{Generated}, Soundness.{fits_kind}};
+ghost use Rattle.application_check.specs.{Faults.{has_other_class}, Steps.{HaveNames, own_fault}};
 
 use crate::kdcdef_check::fault::CheckFault;
 use crate::kdcdef_check::tables::Tables;

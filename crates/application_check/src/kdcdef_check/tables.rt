@@ -3,7 +3,7 @@ ghost use Rattle.std.specs.Prelude.{◌≡◌, [], OnOk, IfOk};
 ghost use Rattle.application_types.specs.Generation.{Generated};
 ghost use Rattle.application_check.specs.{Faults.{is_taken, shares_lterm, lacks_program, lacks_lterm, lacks_keys, lacks_kset}, Steps.{IsAdded, AreFilled, HaveNames, HaveNamed}};
 
-use crate::kdcdef_check::hashing::NameHashing;
+use application_types::generation::NameHashing;
 use application_types::kdcdef_types::{
     Codes, KeySet, LtermEntry, PtermEntry, Said, Statement, TacEntry, UserEntry,
 };

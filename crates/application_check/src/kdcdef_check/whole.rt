@@ -1,7 +1,7 @@
 //! What the statements say together, and the faults that show against it.
 ghost use Rattle.std.specs.Prelude.{◌≡◌, ◌+◌, ◌≤◌, ◌&&◌, ◌==◌, List, length, nat_lt, is_some, unwrap_or, true};
-ghost use Rattle.application_types.specs.declared.kdcdef_types.statement.Statement.{Statement};
-ghost use Rattle.application_check.specs.{Soundness.{restart_count}, Generating.{as_user, said_as, generated}, Faults.{is_end}, Steps.{HaveNamed, IsTallyOf, IsWhole, is_restart, outer_fault}};
+ghost use Rattle.application_types.specs.{Soundness.{restart_count}, declared.kdcdef_types.statement.Statement.{Statement}};
+ghost use Rattle.application_check.specs.{Generating.{as_user, said_as, generated}, Faults.{is_end}, Steps.{HaveNamed, IsTallyOf, SaysTogether, is_restart, outer_fault}};
 
 use crate::kdcdef_check::fault::CheckFault;
 use crate::kdcdef_check::limits::{double_said, max_given};
@@ -53,7 +53,7 @@ fn is_end(said: &Said) -> bool
 impl Whole {
     pub(crate) fn of(statements: &[Statement], tally: &Tally) -> Whole
         requires { IsTallyOf tally.now statements.now }
-        ensures { IsWhole result statements.now }
+        ensures { SaysTogether result statements.now }
     {
         Whole {
             max: max_given(statements),
@@ -81,7 +81,7 @@ impl Whole {
 
     /// The first of a statement's faults against all statements.
     pub(crate) fn fault_of(&self, tables: &Tables, statement: &Statement) -> Option<CheckFault>
-        ensures { (all : List Statement) → HaveNamed tables.now (generated all) → (is_end statement.now.said ≡ true → IsWhole self.now all) → result ≡ outer_fault all statement.now }
+        ensures { (all : List Statement) → HaveNamed tables.now (generated all) → (is_end statement.now.said ≡ true → SaysTogether self.now all) → result ≡ outer_fault all statement.now }
     {
         let said = &statement.said;
         if tables.lacks_program(said) {

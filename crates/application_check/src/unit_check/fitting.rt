@@ -1,45 +1,19 @@
 //! Fitting units to a generation.
-ghost use Rattle.std.specs.Prelude.{◌≡◌, ◌≢◌, All, None, Ok, Err, IfOk, IfErr, OnOk};
-ghost use Rattle.application_types.specs.UnitText.{IsWhole};
-ghost use Rattle.application_check.specs.{declared.unit_check.fault.FitFault.TheVariants.{Memory}, Fitted.{FittedUnits, PutsPlace, AreUnitPlaces, AreFittedTo}, FitFaults.{IsFirstFault, Gives}};
-ghost use Rattle.application_check.specs.Finding.{lacking, units_fault};
+ghost use Rattle.std.specs.Prelude.{◌≡◌, ◌≢◌, All, None, Ok, Err, IfOk, IfErr};
+ghost use Rattle.application_types.specs.{Fitted.{FittedUnits, AreUnitPlaces, AreFittedTo}, UnitText.{IsSpellable}};
+ghost use Rattle.application_check.specs.{declared.unit_check.fault.FitFault.TheVariants.{Memory}, FitFaults.{IsFirstFault, Gives}, Finding.{lacking, units_fault}};
 
-use crate::kdcdef_check::{Generation, NameHashing};
 use crate::unit_check::earlier::earlier;
 use crate::unit_check::fault::FitFault;
 use crate::unit_check::unit::unit_fault;
-use crate::unit_check::units::{Fitted, Units};
+use application_types::generation::{Generation, NameHashing};
 use application_types::kdcdef_types::TacEntry;
 use application_types::unit_types::Unit;
+use application_types::units::{Units, places_of};
 use indexmap::IndexMap;
 use kd_base::{Name, OutOfMemory, ProgName};
 use std::alloc::Global;
 use std::collections::BTreeMap;
-
-// Puts the place of a name, unless it has one already.
-fn put_first(
-    places: &mut BTreeMap<ProgName, usize>,
-    name: ProgName,
-    place: usize,
-) -> Result<(), OutOfMemory>
-    ensures { OnOk result (PutsPlace places.old places.new name place) }
-{
-    if !places.contains_key(&name) {
-        places.insert(name, place)?;
-    }
-    Ok(())
-}
-
-// The place, from 0, of the first unit of each name.
-fn places_of(alloc: Global, units: &[Unit]) -> Result<BTreeMap<ProgName, usize>, OutOfMemory>
-    ensures { IfOk result (λ places. AreUnitPlaces places units.now) }
-{
-    let mut places: BTreeMap<ProgName, usize> = BTreeMap::new(alloc);
-    for (i, unit) in units.iter().enumerate() {
-        put_first(&mut places, *unit.name(), i)?;
-    }
-    Ok(places)
-}
 
 fn tacs_of(generation: &Generation) -> Result<IndexMap<Name, TacEntry, NameHashing>, OutOfMemory>
     ensures { IfOk result (λ tacs. tacs.entries ≡ generation.now.tacs) }
@@ -80,7 +54,7 @@ fn units_fault(units: &[Unit], generation: &Generation) -> Option<FitFault>
 /// A PROGRAM statement without a unit is answered before all others, in the order of these statements. A unit that no
 /// PROGRAM statement names is tested as the others are, and kept. The units are such as a text spells.
 pub fn fit(alloc: Global, units: Vec<Unit>, generation: &Generation) -> Result<Units, FitFault>
-    requires whole { All IsWhole units.items }
+    requires whole { All IsSpellable units.items }
     // Units that are taken have no fault, and are all kept.
     ensures found { IfOk result (λ fitted. AreFittedTo generation.now units.items fitted) }
     // Units that fit are taken, unless memory runs out.
@@ -95,12 +69,7 @@ pub fn fit(alloc: Global, units: Vec<Unit>, generation: &Generation) -> Result<U
     if let Some(fault) = lacking(listed, &places, generation).or(units_fault(listed, generation)) {
         return Err(fault);
     }
-    let fitted = Fitted {
-        units,
-        limits: *generation.max(),
-        tacs: tacs_of(generation)?,
-        places,
-    };
-    let units = Units::of(alloc, fitted)?;
+    let limits = *generation.max();
+    let units = Units::of(alloc, units, places, limits, tacs_of(generation)?)?;
     Ok(units)
 }

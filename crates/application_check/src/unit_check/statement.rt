@@ -1,10 +1,10 @@
 //! The faults of one statement.
 ghost use Rattle.std.specs.{Prelude.{◌≡◌, is_some}, Option.{option_copied}};
-ghost use Rattle.application_types.specs.UnitText.{jump_of};
-ghost use Rattle.application_check.specs.{Fitted.{tac_in, literal_follow_up}, Finding.{label_fault, follow_up_fault}};
+ghost use Rattle.application_types.specs.{Fitted.{tac_in, literal_follow_up}, UnitText.{jump_of}};
+ghost use Rattle.application_check.specs.Finding.{label_fault, follow_up_fault};
 
-use crate::kdcdef_check::Generation;
 use crate::unit_check::fault::FitFault;
+use application_types::generation::Generation;
 use application_types::unit_types::{Action, Operand, Unit, UnitStatement};
 use kd_base::{Bytes, Name, trim_end};
 

@@ -2,10 +2,10 @@
 ghost use Rattle.std.specs.Prelude.{◌≡◌, None, fold};
 ghost use Rattle.application_check.specs.Finding.{field_fault, fields_fault, statement_fault, statements_fault, unit_fault};
 
-use crate::kdcdef_check::Generation;
 use crate::unit_check::earlier::earlier;
 use crate::unit_check::fault::FitFault;
 use crate::unit_check::statement::{follow_up_fault, label_fault};
+use application_types::generation::Generation;
 use application_types::kdcdef_types::Limits;
 use application_types::unit_types::{Field, Unit, UnitStatement};
 

@@ -1,5 +1,5 @@
 -- What a stop within the opening of a KDCFILE leaves, and which error came before one that was handed on.
-use Rattle.std.proofs.Common.{◌≡◌, ◌≤◌, ◌+◌, arith, inl, inr, ⊎_elim, ℕ, List, [], sym, ap, ◌∙◌, Result, Ok, Err, refl}
+use Rattle.std.proofs.Common.{◌≡◌, ◌≤◌, ◌+◌, arith, inl, inr, ⊎_elim, ℕ, List, [], ap, ◌∙◌, Result, Ok, Err, refl}
 use Rattle.std.specs.Prelude.{IsErrOf, IsErrAnd}
 use Rattle.kd_device.specs.Device.{State, LeavesOnly}
 use Rattle.kd_device.specs.TimeLaws.{leaves_weaker, leaves_then}
@@ -33,7 +33,3 @@ load_refused T U (Ok x) load.Failed gives is = absurd gives
 load_refused T U (Err x) load.Failed gives is = absurd cc
 load_refused T U (Ok x) load.Memory gives is = absurd gives
 load_refused T U (Err x) load.Memory gives is = absurd cc
-
-pub handed_on : (T U : Type 0) (r : Result T OpenError) (e f : OpenError) → IsErrAnd r (λ x. x ≡ e) → IsErrOf r f → IsErrOf {T = U} (Err e) f
-handed_on T U (Ok x) e f gives is = absurd gives
-handed_on T U (Err x) e f gives is = let h : x ≡ f = cc in ap (λ (y : OpenError). Err y) (sym gives ∙ h)

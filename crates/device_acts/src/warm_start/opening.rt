@@ -2,7 +2,7 @@
 ghost use Rattle.std.specs.Prelude.{◌≡◌, ◌≤◌, ◌+◌, [], List, ℕ, IsTrue, length, IfOk, OnOk, IsErrOf};
 ghost use Rattle.kd_device.specs.{Device.{State, Rose, Frame, SameFaults, SameNames, Only}, Rest.{Rests}};
 ghost use Rattle.kd_records.specs.{Charge.{total_charge}, Contents.{IsContent}, Identity.{IsIdentity}};
-ghost use Rattle.application_check.specs.Soundness.{AreLimits};
+ghost use Rattle.application_types.specs.Soundness.{AreLimits};
 ghost use Rattle.application_types.specs.Statements.{IsBlksize, IsWithin};
 ghost use Rattle.kdcs_types.specs.Tables.{empty_tables};
 ghost use Rattle.kdcfile_store.specs.{Kept.{IsKept}, Paged.{HasFile, LeavesMade, made_length}};
@@ -11,7 +11,7 @@ ghost use Rattle.device_acts.specs.{Stands.{AreTables, KeepsTables, StandsForNoT
 ghost use Rattle.device_acts.specs.Opening.{StartsFrom, HasNoTablesFor, IsRefused, IsOfOtherTexts, LeavesOpening, opening_most};
 
 use crate::warm_start::error::OpenError;
-use application_check::kdcdef_check::Generation;
+use application_types::generation::Generation;
 use kd_device::{Device, DeviceError};
 use kdcfile_store::{PagedStore, StoreLimits};
 use kdcs_types::Tables;

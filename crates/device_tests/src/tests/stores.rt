@@ -5,6 +5,7 @@ ghost use Rattle.kd_device.specs.Memory.{state_of, leaves_of};
 ghost use Rattle.kd_records.specs.{Charge.{IsBlockSize, total_charge}, Contents.{Change, IsKey, IsPatch}, Keys.{key_cmp}};
 ghost use Rattle.kdcfile_store.specs.Kept.{IsKept};
 
+use crate::whole_store::WholeStore;
 use kd_base::Bytes;
 use kd_base::sorted_pairs::SortedPairs;
 use kd_device::MemDevice;
@@ -13,7 +14,6 @@ use kdcfile_store::{PagedStore, Store, StoreLimits};
 use std::alloc::Global;
 use std::process::Abort;
 use std::test::Fail;
-use whole_store::WholeStore;
 
 const LIMITS: StoreLimits = StoreLimits {
     blksize: 2048,

@@ -1,30 +1,15 @@
 -- One half of a twin is used as a device, and given back.
-use Rattle.std.proofs.Common.{◌≡◌, ◌≤◌, ◌⊎◌, ℕ, List, refl, inl, ⊎_elim, subst}
+use Rattle.std.proofs.Common.{◌≡◌, ◌⊎◌, ℕ, List, inl, ⊎_elim, subst}
 use Rattle.std.specs.Prelude.{IsTrue}
 use Rattle.kd_device.specs.Device.{LeavesOnly}
 use Rattle.kd_device.specs.TimeLaws.{leaves_weaker}
 use Rattle.kd_device.specs.Rest.{Rests, Before}
 use Rattle.kd_device.specs.declared.half.Half.{Half}
 use Rattle.kd_device.specs.Twin.{Both, other, half_state, slice, half_leaves}
-use Rattle.kd_device.specs.Apart.{IsSince}
-use Rattle.kd_device.specs.ApartLaws.{since_here}
+use Rattle.kd_device.specs.Apart.{EarlierAt, IsSince}
 use Rattle.kd_device.specs.PairLaws.{others_stay, leaves_beside}
 use Rattle.kdcfile_copies.specs.Keeping.{LeavesNoCopy}
 use Rattle.kdcfile_copies.specs.Beside.{LeavesBeside, NoMore, OtherStays}
-
--- the laws of a twin at one moment
-abbrev pub SentAt : Both → (ℕ → List ℕ → List ℕ → List ℕ → Type 0) → Type 0
-SentAt b l = (c d out : List ℕ) → IsTrue b.told → l b.moment c d out → out ≡ b.sent
-
-abbrev pub EarlierAt : Both → (ℕ → List ℕ → List ℕ → List ℕ → Type 0) → Type 0
-EarlierAt b l = (t u : ℕ) (c d out : List ℕ) → IsTrue b.told → t ≤ u → l u c d out → l t c d out
-
--- the twin as it is now is an origin
-pub begins : (b : Both) (l : ℕ → List ℕ → List ℕ → List ℕ → Type 0) → SentAt b l → EarlierAt b l → (half : Half) (place : ℕ) → IsSince half place place b b l l
-begins b l sent earlier half place =
-    since_here half place place b b l l
-    (record { same_place = refl; same_both = refl; to = λ t c d out left. left; from = λ t c d out left. left })
-    sent earlier
 
 -- what is left of two files, at a twin that is another's equal
 module _ {T : Type 0} (both : T → Both) (leaves : T → ℕ → List ℕ → List ℕ → List ℕ → Type 0) {half : Half} {place0 place : ℕ} {x y : T} (since : IsSince half place0 place (both x) (both y) (leaves x) (leaves y)) where

@@ -8,12 +8,12 @@ ghost use Rattle.kdcfile_copies.specs.{Copies.{HasNoSequence, bare, next_patch},
 ghost use Rattle.kdcfile_copies.specs.Beside.{SameDisk, LeavesBeside, OtherStays};
 
 use crate::{LoadedCopy, commit_copy};
-use kd_device::{DeviceError, Half, HalfDevice, Origin, Twin};
+use kd_device::{DeviceError, Half, HalfDevice, HalfOrigin, Twin};
 use kd_records::Patch;
 use std::alloc::Global;
 use std::marker::Brand;
 
-fn commit_on<T: Twin, O: Origin>(
+fn commit_on<T: Twin, O: HalfOrigin>(
     alloc: Global,
     twin: T,
     half: Half,

@@ -7,32 +7,30 @@ ghost use Rattle.kdcfile_copies.specs.Finding.{IsAnswer, IsFound};
 ghost use Rattle.kdcfile_copies.specs.Beside.{SameDisk, LeavesBeside, NoMore, OtherStays};
 
 use crate::{Found, load_copy};
-use kd_device::{DeviceError, Half, HalfDevice, Origin, Twin};
+use kd_device::{DeviceError, Half, HalfDevice, HalfOrigin, Twin};
 use std::alloc::Global;
 use std::marker::Brand;
 
-// The answer goes into `found`: beside the twin it would keep the borrow of it.
-fn load_on<T: Twin, O: Origin>(
+fn load_on<T: Twin, O: HalfOrigin>(
     alloc: Global,
     twin: T,
     half: Half,
-    found: &mut Result<Found, DeviceError>,
-) -> T
+) -> (T, Result<Found, DeviceError>)
     requires half { half ≡ O.half }
     requires since { IsSince O.half O.place (T.place twin) O.both (T.both twin) O.leaves (T.leaves twin) }
-    ensures since { IsSince O.half O.place (T.place result) O.both (T.both result) O.leaves (T.leaves result) }
-    ensures found { IfOk found.new (λ f. IsFound f) }
-    ensures answer { IfOk found.new (λ f. IsTrue (T.both twin).told → IsAnswer f (half_state O.half (T.both twin)).holds) }
-    ensures kept { IfOk found.new (λ f. IsTrue (T.both twin).told → IsKept (IsAnswer f) (half_state O.half (T.both result)) (half_leaves O.half (T.leaves result))) }
-    ensures rests { IsTrue (T.both twin).told → Rests (half_state O.half (T.both twin)) (half_state O.half (T.both result)) (half_leaves O.half (T.leaves twin)) (half_leaves O.half (T.leaves result)) }
-    ensures failed { IsErrOf found.new DeviceError.Failed → Rose (half_state O.half (T.both twin)).disk_faults (half_state O.half (T.both result)).disk_faults }
-    ensures fine { (IsErrOf found.new DeviceError.Failed → ⊥) → SameFaults (half_state O.half (T.both twin)) (half_state O.half (T.both result)) }
-    ensures frame { Frame (half_state O.half (T.both twin)) (half_state O.half (T.both result)) }
-    ensures names { SameNames (half_state O.half (T.both twin)) (half_state O.half (T.both result)) }
+    ensures since { IsSince O.half O.place (T.place result.0) O.both (T.both result.0) O.leaves (T.leaves result.0) }
+    ensures found { IfOk result.1 (λ f. IsFound f) }
+    ensures answer { IfOk result.1 (λ f. IsTrue (T.both twin).told → IsAnswer f (half_state O.half (T.both twin)).holds) }
+    ensures kept { IfOk result.1 (λ f. IsTrue (T.both twin).told → IsKept (IsAnswer f) (half_state O.half (T.both result.0)) (half_leaves O.half (T.leaves result.0))) }
+    ensures rests { IsTrue (T.both twin).told → Rests (half_state O.half (T.both twin)) (half_state O.half (T.both result.0)) (half_leaves O.half (T.leaves twin)) (half_leaves O.half (T.leaves result.0)) }
+    ensures failed { IsErrOf result.1 DeviceError.Failed → Rose (half_state O.half (T.both twin)).disk_faults (half_state O.half (T.both result.0)).disk_faults }
+    ensures fine { (IsErrOf result.1 DeviceError.Failed → ⊥) → SameFaults (half_state O.half (T.both twin)) (half_state O.half (T.both result.0)) }
+    ensures frame { Frame (half_state O.half (T.both twin)) (half_state O.half (T.both result.0)) }
+    ensures names { SameNames (half_state O.half (T.both twin)) (half_state O.half (T.both result.0)) }
 {
     let mut device: HalfDevice<T, O> = HalfDevice::new(twin, half);
-    *found = load_copy(alloc, &mut device);
-    device.into_twin()
+    let found = load_copy(alloc, &mut device);
+    (device.into_twin(), found)
 }
 
 /// Tells what the file of this half is: empty, no copy, or a copy, which is loaded. It stays as it is, and what was pending
@@ -50,7 +48,7 @@ pub fn load_half<T: Twin>(alloc: Global, twin: &mut T, half: Half) -> Result<Fou
     ensures frame { Frame (half_state half (T.both twin.old)) (half_state half (T.both twin.new)) }
     ensures names { SameNames (half_state half (T.both twin.old)) (half_state half (T.both twin.new)) }
 {
-    let mut found = Err(DeviceError::Memory);
-    load_on::<&mut T, Brand>(alloc, twin, half, &mut found);
+    let (twin, found) = load_on::<&mut T, Brand>(alloc, twin, half);
+    let _ = twin;
     found
 }

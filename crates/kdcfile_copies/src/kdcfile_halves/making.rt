@@ -9,41 +9,39 @@ ghost use Rattle.kdcfile_copies.specs.Keeping.{CopyKeeps, BeingMade, LeavesCopyM
 ghost use Rattle.kdcfile_copies.specs.Beside.{SameDisk, LeavesBeside, OtherStays};
 
 use crate::{LoadedCopy, make_copy};
-use kd_device::{DeviceError, Half, HalfDevice, Origin, Twin};
+use kd_device::{DeviceError, Half, HalfDevice, HalfOrigin, Twin};
 use kdcfile_store::StoreLimits;
 use std::alloc::Global;
 use std::marker::Brand;
 
-// The answer goes into `made`: beside the twin it would keep the borrow of it.
-fn make_on<T: Twin, O: Origin>(
+fn make_on<T: Twin, O: HalfOrigin>(
     alloc: Global,
     twin: T,
     half: Half,
     limits: &StoreLimits,
     fingerprint: &[u8; 32],
-    made: &mut Result<LoadedCopy, DeviceError>,
-) -> T
+) -> (T, Result<LoadedCopy, DeviceError>)
     requires half { half ≡ O.half }
     requires since { IsSince O.half O.place (T.place twin) O.both (T.both twin) O.leaves (T.leaves twin) }
     requires identity { IsIdentity (identity_with limits.now fingerprint.now) }
     requires empty { IsTrue (T.both twin).told → (half_state O.half (T.both twin)).holds ≡ [] }
     requires at_rest { IsTrue (T.both twin).told → Only (half_state O.half (T.both twin)).holds (half_state O.half (T.both twin)) (half_leaves O.half (T.leaves twin)) }
-    ensures since { IsSince O.half O.place (T.place result) O.both (T.both result) O.leaves (T.leaves result) }
-    ensures identity { IfOk made.new (λ c. c.store.identity ≡ identity_with limits.now fingerprint.now) }
-    ensures sequence { IfOk made.new (λ c. c.sequence ≡ 0) }
-    ensures keeps { IfOk made.new (λ c. CopyKeeps c.store 0 fresh) }
-    ensures kept { IfOk made.new (λ c. IsTrue (T.both twin).told → IsKept (HasFile c.store) (half_state O.half (T.both result)) (half_leaves O.half (T.leaves result))) }
-    ensures sent { IsTrue (T.both twin).told → (T.both result).sent ≡ (T.both twin).sent }
-    ensures any_moment { IsTrue (T.both twin).told → LeavesCopyMade (identity_with limits.now fingerprint.now) (half_state O.half (T.both twin)) (half_state O.half (T.both result)) (half_leaves O.half (T.leaves twin)) (half_leaves O.half (T.leaves result)) }
-    ensures failed { IsErrOf made.new DeviceError.Failed → Rose (half_state O.half (T.both twin)).disk_faults (half_state O.half (T.both result)).disk_faults }
-    ensures memory { IsErrOf made.new DeviceError.Memory → IsTrue (T.both twin).told → LeavesNoCopy (half_state O.half (T.both result)) (half_leaves O.half (T.leaves result)) }
-    ensures fine { (IsErrOf made.new DeviceError.Failed → ⊥) → SameFaults (half_state O.half (T.both twin)) (half_state O.half (T.both result)) }
-    ensures frame { Frame (half_state O.half (T.both twin)) (half_state O.half (T.both result)) }
-    ensures names { SameNames (half_state O.half (T.both twin)) (half_state O.half (T.both result)) }
+    ensures since { IsSince O.half O.place (T.place result.0) O.both (T.both result.0) O.leaves (T.leaves result.0) }
+    ensures identity { IfOk result.1 (λ c. c.store.identity ≡ identity_with limits.now fingerprint.now) }
+    ensures sequence { IfOk result.1 (λ c. c.sequence ≡ 0) }
+    ensures keeps { IfOk result.1 (λ c. CopyKeeps c.store 0 fresh) }
+    ensures kept { IfOk result.1 (λ c. IsTrue (T.both twin).told → IsKept (HasFile c.store) (half_state O.half (T.both result.0)) (half_leaves O.half (T.leaves result.0))) }
+    ensures sent { IsTrue (T.both twin).told → (T.both result.0).sent ≡ (T.both twin).sent }
+    ensures any_moment { IsTrue (T.both twin).told → LeavesCopyMade (identity_with limits.now fingerprint.now) (half_state O.half (T.both twin)) (half_state O.half (T.both result.0)) (half_leaves O.half (T.leaves twin)) (half_leaves O.half (T.leaves result.0)) }
+    ensures failed { IsErrOf result.1 DeviceError.Failed → Rose (half_state O.half (T.both twin)).disk_faults (half_state O.half (T.both result.0)).disk_faults }
+    ensures memory { IsErrOf result.1 DeviceError.Memory → IsTrue (T.both twin).told → LeavesNoCopy (half_state O.half (T.both result.0)) (half_leaves O.half (T.leaves result.0)) }
+    ensures fine { (IsErrOf result.1 DeviceError.Failed → ⊥) → SameFaults (half_state O.half (T.both twin)) (half_state O.half (T.both result.0)) }
+    ensures frame { Frame (half_state O.half (T.both twin)) (half_state O.half (T.both result.0)) }
+    ensures names { SameNames (half_state O.half (T.both twin)) (half_state O.half (T.both result.0)) }
 {
     let mut device: HalfDevice<T, O> = HalfDevice::new(twin, half);
-    *made = make_copy(alloc, &mut device, limits, fingerprint);
-    device.into_twin()
+    let made = make_copy(alloc, &mut device, limits, fingerprint);
+    (device.into_twin(), made)
 }
 
 /// Makes the file of this half, which is empty, and commits the sequence 0. A stop leaves no copy there, or the first one;
@@ -75,7 +73,7 @@ pub fn make_half<T: Twin>(
     ensures frame { Frame (half_state half (T.both twin.old)) (half_state half (T.both twin.new)) }
     ensures names { SameNames (half_state half (T.both twin.old)) (half_state half (T.both twin.new)) }
 {
-    let mut made = Err(DeviceError::Memory);
-    make_on::<&mut T, Brand>(alloc, twin, half, limits, fingerprint, &mut made);
+    let (twin, made) = make_on::<&mut T, Brand>(alloc, twin, half, limits, fingerprint);
+    let _ = twin;
     made
 }

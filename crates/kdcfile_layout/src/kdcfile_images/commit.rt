@@ -43,11 +43,11 @@ fn file_end(image: &Image, root: &Root) -> u64
 fn writes_of(
     alloc: Global,
     image: &Image,
-    pages: &[PageWrite],
+    pages: Vec<PageWrite>,
     root: &Root,
 ) -> Result<Vec<PageWrite>, OutOfMemory>
     requires { length root.now.directory < 2 ^ 32 }
-    ensures { IfOk result (λ v. AreStaged image.now pages.now root.now v.items) }
+    ensures { IfOk result (λ v. AreStaged image.now pages.items root.now v.items) }
 {
     let mut writes = joined(alloc, pages)?;
     writes.push(PageWrite {
@@ -65,32 +65,32 @@ pub fn commit_image<D: Device>(
     alloc: Global,
     device: &mut D,
     image: &mut Image,
-    pages: &[PageWrite],
+    pages: Vec<PageWrite>,
     root: Root,
 ) -> Result<(), DeviceError>
     requires pgpool { image.old.root.pgpool ≤ root.pgpool }
     requires most { root.pgpool ≤ 30000 }
     requires fingerprint { length root.fingerprint ≡ 32 }
     requires directory { length root.directory ≡ directory_pages image.old.blksize root.pgpool }
-    requires pages { ArePages image.old.blksize root.pgpool pages.now }
-    requires few { length pages.now < 2 ^ 32 }
-    requires apart { IsTrue (D.state device.old).told → (x : Content) × (l : Layout) × IsApartFrom image.old x l pages.now (D.state device.old).holds }
-    requires would_be { IsTrue (D.state device.old).told → (y : Content) × (m : Layout) × WouldBe image.old pages.now root y m (D.state device.old).holds }
+    requires pages { ArePages image.old.blksize root.pgpool pages.items }
+    requires few { length pages.items < 2 ^ 32 }
+    requires apart { IsTrue (D.state device.old).told → (x : Content) × (l : Layout) × IsApartFrom image.old x l pages.items (D.state device.old).holds }
+    requires would_be { IsTrue (D.state device.old).told → (y : Content) × (m : Layout) × WouldBe image.old pages.items root y m (D.state device.old).holds }
     requires at_rest { IsTrue (D.state device.old).told → Only (D.state device.old).holds (D.state device.old) (D.leaves device.old) }
 
     // At `Ok` the image is the other one with this root, and the file has it on the disk.
     ensures image { image.new ≡ (if is_ok result then record image.old { root = root; second = not image.old.second } else image.old) }
-    ensures holds { OnOk result (IsTrue (D.state device.old).told → (D.state device.new).holds ≡ committed image.old pages.now root (D.state device.old).holds) }
-    ensures stands { OnOk result (IsTrue (D.state device.old).told → (y : Content) (m : Layout) → WouldBe image.old pages.now root y m (D.state device.old).holds → Stands (renewed image.old root) (not image.old.second) y m (D.state device.new).holds) }
+    ensures holds { OnOk result (IsTrue (D.state device.old).told → (D.state device.new).holds ≡ committed image.old pages.items root (D.state device.old).holds) }
+    ensures stands { OnOk result (IsTrue (D.state device.old).told → (y : Content) (m : Layout) → WouldBe image.old pages.items root y m (D.state device.old).holds → Stands (renewed image.old root) (not image.old.second) y m (D.state device.new).holds) }
     ensures at_rest { OnOk result (IsTrue (D.state device.old).told → Only (D.state device.new).holds (D.state device.new) (D.leaves device.new)) }
     ensures sent { IsTrue (D.state device.old).told → (D.state device.new).sent ≡ (D.state device.old).sent }
 
     // A stop at any moment of the call leaves the old content or the new one.
-    ensures any_moment { IsTrue (D.state device.old).told → LeavesEither image.old pages.now root (D.state device.old) (D.state device.new) (D.leaves device.old) (D.leaves device.new) }
+    ensures any_moment { IsTrue (D.state device.old).told → LeavesEither image.old pages.items root (D.state device.old) (D.state device.new) (D.leaves device.old) (D.leaves device.new) }
 
     // The bytes written are those of the pages, 64 of the root with the directory's numbers, and 1 of the selector.
-    ensures put { OnOk result (IsTrue (D.state device.old).told → (D.state device.new).put ≡ (D.state device.old).put + total pages.now + 64 + 4 * directory_pages image.old.blksize root.pgpool + 1) }
-    ensures put_most { IsTrue (D.state device.old).told → (D.state device.new).put ≤ (D.state device.old).put + total pages.now + 64 + 4 * directory_pages image.old.blksize root.pgpool + 1 }
+    ensures put { OnOk result (IsTrue (D.state device.old).told → (D.state device.new).put ≡ (D.state device.old).put + total pages.items + 64 + 4 * directory_pages image.old.blksize root.pgpool + 1) }
+    ensures put_most { IsTrue (D.state device.old).told → (D.state device.new).put ≤ (D.state device.old).put + total pages.items + 64 + 4 * directory_pages image.old.blksize root.pgpool + 1 }
 
     ensures failed { IsErrOf result DeviceError.Failed → Rose (D.state device.old).disk_faults (D.state device.new).disk_faults }
     ensures memory { IsErrOf result DeviceError.Memory → IsTrue (D.state device.old).told → Rests (D.state device.old) (D.state device.new) (D.leaves device.old) (D.leaves device.new) }

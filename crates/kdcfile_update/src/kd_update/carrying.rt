@@ -4,7 +4,7 @@ ghost use Rattle.kdcs_types.specs.{declared.act.Row.{Row as RowIs}, Tables.{AreC
 ghost use Rattle.kdcfile_update.specs.{Carrying.{carried, carried_row, dropped, service_stays, sets}, ChargingLaws.{HasNoMoreRows}};
 
 use crate::kd_update::refitting::with_kb;
-use application_check::kdcdef_check::Generation;
+use application_types::generation::Generation;
 use kd_base::{Bytes, Name, OutOfMemory};
 use kdcs_types::{Change, Changes, Job, JobValue, Row, RowChanges, Service, Tables};
 use service_parts::service_runs::is_durable;

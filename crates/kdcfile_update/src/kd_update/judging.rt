@@ -6,7 +6,7 @@ ghost use Rattle.table_fit.specs.Charging.{AreShort};
 ghost use Rattle.kdcfile_update.specs.{Carrying.{carried}, Judging.{are_of_a_kdcfile, judged, new_judged}};
 
 use crate::kd_update::error::UpdateError;
-use application_check::kdcdef_check::Generation;
+use application_types::generation::Generation;
 use kdcs_types::Tables;
 use table_fit::{numbers_are_apart, numbers_suit, total_charge};
 

@@ -3,7 +3,7 @@ ghost use Rattle.std.specs.{Prelude.{◌≡◌, IfOk}, List.{list_all}};
 ghost use Rattle.kd_base.specs.Text.{is_space};
 ghost use Rattle.kdcfile_update.specs.Carrying.{refitted, with_kb};
 
-use application_check::kdcdef_check::Generation;
+use application_types::generation::Generation;
 use kd_base::{Bytes, OutOfMemory};
 use kdcs_types::Service;
 use std::alloc::Global;

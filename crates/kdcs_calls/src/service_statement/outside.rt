@@ -1,7 +1,7 @@
 //! What a statement looks at beside the locks and its transaction.
 
-use application_check::kdcdef_check::Generation;
-use application_check::unit_check::Units;
+use application_types::generation::Generation;
+use application_types::units::Units;
 use kdcs_types::Tables;
 use std::alloc::Global;
 

@@ -8,9 +8,9 @@ use Rattle.application_types.specs.declared.kdcdef_types.entry.PtermEntry.{Pterm
 use Rattle.application_types.specs.declared.kdcdef_types.entry.TacEntry.{TacEntry}
 use Rattle.application_types.specs.declared.kdcdef_types.limits.Limits.{Limits}
 use Rattle.application_types.specs.Generation.{Generated, entry_of, tac_of, lterm_of}
-use Rattle.application_check.specs.Soundness.{IsSound}
+use Rattle.application_types.specs.Soundness.{IsSound}
 use Rattle.application_types.specs.UnitText.{UnitText}
-use Rattle.application_check.specs.Fitted.{FittedUnits, IsFit, IsFitted, AreFit, unit_named}
+use Rattle.application_types.specs.Fitted.{FittedUnits, IsFit, IsFitted, AreFit, unit_named}
 use Rattle.abstract_monitor.specs.State.{unit_by, unit_of}
 use Rattle.laws_of_states.specs.Applications.{IsFittedUnit, HasUnit, IsApplication}
 use Rattle.laws_of_states.specs.KeptEntriesLaws.{short_names}

@@ -9,7 +9,7 @@ use crate::access_rules::decide;
 use crate::session_table::sessions::Sessions;
 use crate::session_table::split::Split;
 use abstract_monitor::{ServiceState, SignFault, TacFault, Use};
-use application_check::kdcdef_check::Generation;
+use application_types::generation::Generation;
 use application_types::kdcdef_types::CallUse;
 use kd_base::{Bytes, Name, OutOfMemory};
 use std::alloc::Global;

@@ -8,7 +8,7 @@ use crate::session_table::input::{Caller, lterm_of, use_signed, use_unsigned};
 use crate::session_table::session::Session;
 use crate::session_table::split::Split;
 use abstract_monitor::{ServiceState, Use};
-use application_check::kdcdef_check::Generation;
+use application_types::generation::Generation;
 use kd_base::sorted_pairs::OrderedMap;
 use kd_base::{Bytes, Name, OutOfMemory};
 use std::alloc::Global;

@@ -1,15 +1,15 @@
 //! The parts of a monitor.
 ghost use Rattle.std.specs.Prelude.{◌≡◌};
 
-use application_check::kdcdef_check::Generation;
-use application_check::unit_check::Units;
+use crate::step_scheduler::Scheduler;
+use application_types::generation::Generation;
+use application_types::units::Units;
 use kd_base::sorted_pairs::OrderedMap;
 use kdcs_types::{ServiceId, Tables};
 use monitor_parts::area_locks::LockTable;
 use monitor_parts::session_table::Sessions;
 use open_transaction::OpenTransaction;
 use open_transaction::async_queue::Jobs;
-use step_scheduler::Scheduler;
 
 /// All that a monitor has between two steps. Contracts see all fields; `state_of` is the state that they stand for.
 pub struct MonitorParts {

@@ -2,13 +2,13 @@
 ghost use Rattle.std.specs.{Prelude.{◌≡◌, ◌++◌, ◌∷◌, [], IsSome, None, OnOk, not, map, filter}, FinMap.{find}};
 ghost use Rattle.kdcs_types.specs.Keys.{id_cmp, id_eq};
 ghost use Rattle.abstract_monitor.specs.{Commands.{no_place}, Picks.{class_of, current_by}, Turns.{with_task}};
-ghost use Rattle.step_scheduler.specs.Schedule.{IsTask};
+ghost use Rattle.service_ends.specs.Schedule.{IsTask};
 ghost use Rattle.service_ends.specs.Standing.{IsIndexed, SameApplication, state_of};
 
 use crate::core_state::parts::MonitorParts;
+use crate::step_scheduler::class_of;
 use kd_base::OutOfMemory;
 use kdcs_types::ServiceId;
-use step_scheduler::class_of;
 
 impl MonitorParts {
     /// The task holds no service from now on. It takes no memory.

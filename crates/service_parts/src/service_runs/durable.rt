@@ -2,7 +2,7 @@
 ghost use Rattle.std.specs.Prelude.{◌≡◌};
 ghost use Rattle.abstract_monitor.specs.Endings.{is_durable};
 
-use application_check::kdcdef_check::Generation;
+use application_types::generation::Generation;
 use kdcs_types::ServiceId;
 
 /// Whether the service outlives a stop: not a dialogue service of a user with RESTART=NO.

@@ -4,7 +4,7 @@ ghost use Rattle.application_types.specs.Generation.{tac_of};
 ghost use Rattle.kdcs_types.specs.declared.call.Code.TheVariants as code;
 ghost use Rattle.abstract_monitor.specs.Endings.{spaces, budget_by, fresh_run, kb_of};
 
-use application_check::kdcdef_check::Generation;
+use application_types::generation::Generation;
 use kd_base::{Bytes, Name, OutOfMemory};
 use kdcs_types::{Code, Header, RunState, Service};
 use std::alloc::Global;

@@ -1,5 +1,5 @@
 //! The statements of a text, kept in little room.
-ghost use Rattle.std.specs.Prelude.{◌≡◌, ◌∷◌, ◌++◌, ◌+◌, [], ◌<◌, length, slice_get, Some, IsTrue, is_some, IfOk, OnOk};
+ghost use Rattle.std.specs.Prelude.{◌≡◌, ◌∷◌, ◌++◌, [], ◌<◌, length, slice_get, Some, IsTrue, is_some, OnOk};
 ghost use Rattle.texts.specs.Parsing.{spelled_at, statement_in};
 
 use crate::kdcdef_lex::parse::word_at;
@@ -14,8 +14,8 @@ use std::marker::Model;
 struct Place {
     /// The number of its first line, counted from 1.
     line: u32,
-    from: u32,
-    end: u32,
+    from: usize,
+    end: usize,
 }
 
 /// The statements of a text, in their order. Contracts see the list of them.
@@ -41,17 +41,6 @@ impl Model for Statements {
     ghost invariant = { λ s. AreSpelled s.bytes.items s.places.items };
 }
 
-/// Where bytes end that begin here. There is no room for more than a `u32` can tell.
-fn end_of(from: usize, count: usize) -> Result<u32, OutOfMemory>
-    ensures { IfOk result (λ end. end ≡ from + count) }
-{
-    let end = from.checked_add(count).ok_or(OutOfMemory)?;
-    match u32::try_from(end) {
-        Ok(end) => Ok(end),
-        Err(_) => Err(OutOfMemory),
-    }
-}
-
 impl Statements {
     pub(crate) fn new(alloc: Global) -> Statements
         ensures { result ≡ [] }
@@ -68,13 +57,9 @@ impl Statements {
         ensures { OnOk result (self.new ≡ self.old ++ statement_in line text.now ∷ []) }
     {
         let from = self.bytes.len();
-        let end = end_of(from, text.len())?;
         self.bytes.extend_from_slice(text)?;
-        self.places.push(Place {
-            line,
-            from: from as u32,
-            end,
-        })?;
+        let end = self.bytes.len();
+        self.places.push(Place { line, from, end })?;
         Ok(())
     }
 
@@ -91,7 +76,7 @@ impl Statements {
         ensures { slice_get self.now place ≡ Some result }
     {
         let Place { line, from, end } = self.places[place];
-        let tokens = Tokens::known(&self.bytes[from as usize..end as usize]);
+        let tokens = Tokens::known(&self.bytes[from..end]);
         let Some((keyword, rest)) = word_at(&tokens) else {
             unreachable!();
         };

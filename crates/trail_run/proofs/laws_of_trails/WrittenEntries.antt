@@ -14,7 +14,7 @@ use Rattle.std.specs.declared.cmp.Ordering.TheVariants.{Less, Equal, Greater}
 use Rattle.kd_base.specs.Limits.{last_next_job}
 use Rattle.kd_base.specs.Text.{IsName}
 use Rattle.kd_base.specs.ToolsLaws.{both_true, true_both, map_some, some_is}
-use Rattle.application_check.specs.Soundness.{AreLimits, AreNamed}
+use Rattle.application_types.specs.Soundness.{AreLimits, AreNamed}
 use Rattle.application_types.specs.Generation.{Generated}
 use Rattle.kdcs_types.specs.declared.act.Change.{Change}
 use Rattle.kdcs_types.specs.declared.act.Row.{Row}

@@ -5,7 +5,7 @@ use Rattle.std.proofs.lemmas.Bool.{leb-true}
 use Rattle.std.specs.FinMap.{find}
 use Rattle.kd_base.specs.Limits.{last_clock}
 use Rattle.kd_base.specs.Text.{IsName}
-use Rattle.application_check.specs.Soundness.{AreLimits, AreNamed}
+use Rattle.application_types.specs.Soundness.{AreLimits, AreNamed}
 use Rattle.kdcs_types.specs.declared.key.ServiceId.TheVariants.{Dialogue}
 use Rattle.kdcs_types.specs.declared.service.Job.{Job}
 use Rattle.kdcs_types.specs.declared.service.JobValue.{JobValue}

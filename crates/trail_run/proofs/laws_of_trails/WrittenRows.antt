@@ -24,7 +24,7 @@ use Rattle.kdcs_types.specs.declared.service.Service.{Service}
 use Rattle.kdcs_types.specs.Keys.{area_key}
 use Rattle.kdcs_types.specs.Same.{target_eq}
 use Rattle.kdcs_types.specs.Tables.{TableRows, IsSortedTables, gssb_row, tls_row, uls_row, service_row, job_row, shown_row, lterm_fits, service_fits}
-use Rattle.application_check.specs.Soundness.{AreLimits, AreNamed, HaveProperNames}
+use Rattle.application_types.specs.Soundness.{AreLimits, AreNamed, HaveProperNames}
 use Rattle.application_types.specs.declared.kdcdef_types.entry.LtermEntry.{LtermEntry}
 use Rattle.application_types.specs.declared.kdcdef_types.entry.TacEntry.{TacEntry}
 use Rattle.application_types.specs.Generation.{Generated, entry_of, tac_of, lterm_of}

@@ -7,7 +7,7 @@ use Rattle.std.specs.declared.cmp.Ordering.TheVariants.{Equal}
 use Rattle.std.specs.FinMap.{find, put}
 use Rattle.std.specs.FinMap.Entries.{where_key, find-put, find-where_key}
 use Rattle.kd_base.specs.ToolsLaws.{both_true, true_both, some_is}
-use Rattle.application_check.specs.Soundness.{AreLimits, AreNamed}
+use Rattle.application_types.specs.Soundness.{AreLimits, AreNamed}
 use Rattle.application_types.specs.Generation.{Generated}
 use Rattle.kdcs_types.specs.declared.act.Act.{Act}
 use Rattle.kdcs_types.specs.declared.key.Area.{Area}

@@ -4,7 +4,7 @@ use Rattle.std.proofs.Common.{sym, ap, subst, arith, inl, inr}
 use Rattle.std.proofs.lemmas.List.Elements.{All-from_recursion, All-weaker}
 use Rattle.std.specs.List.{cons_option, AllByRecursion as Each}
 use Rattle.std.specs.Option.{option_map}
-use Rattle.application_check.specs.Soundness.{AreLimits, AreNamed}
+use Rattle.application_types.specs.Soundness.{AreLimits, AreNamed}
 use Rattle.kdcs_types.specs.declared.act.Act.{Act}
 use Rattle.kdcs_types.specs.declared.act.Act.TheVariants.{Commit, Emit}
 use Rattle.kdcs_types.specs.declared.act.Changes.{Changes}

@@ -4,11 +4,11 @@ ghost use Rattle.audit_trail.specs.Facts.{IsTrail};
 ghost use Rattle.laws_of_runs.specs.Applied.{applied};
 ghost use Rattle.laws_of_states.specs.Suits.{Suits};
 ghost use Rattle.trail_run.specs.Auditing.{IsJudged};
-ghost use Rattle.application_check.specs.Fitted.{IsFit};
+ghost use Rattle.application_types.specs.Fitted.{IsFit};
 
 use crate::trail_words::verdict::Verdict;
-use application_check::kdcdef_check::Generation;
-use application_check::unit_check::Units;
+use application_types::generation::Generation;
+use application_types::units::Units;
 use audit_trail::Trail;
 use kd_base::OutOfMemory;
 use serial_audit::{Audited, audit_entry};

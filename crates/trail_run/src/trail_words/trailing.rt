@@ -5,13 +5,13 @@ ghost use Rattle.laws_of_runs.specs.Applied.{applied};
 ghost use Rattle.trail_run.specs.OwnTrails.{CanBeTrailed, entries_of};
 ghost use Rattle.monitor_core.specs.CoreSteps.{turns_of};
 ghost use Rattle.trail_run.specs.Trailing.{HasBytes, text_of};
-ghost use Rattle.application_check.specs.Fitted.{IsFit};
+ghost use Rattle.application_types.specs.Fitted.{IsFit};
 
 use crate::laws_of_trails::own_trails_are_written;
 use crate::trail_of;
 use abstract_monitor::Command;
-use application_check::kdcdef_check::Generation;
-use application_check::unit_check::Units;
+use application_types::generation::Generation;
+use application_types::units::Units;
 use audit_trail::{TrailEntries, TrailEntry, end_line, entry_lines, head_lines};
 use kd_base::{Bytes, OutOfMemory};
 use kdcs_types::Tables;

@@ -1,9 +1,11 @@
 -- A line that is said after files that stay.
-use Rattle.std.proofs.Common.{◌≡◌, inl, inr, ⊎_elim, ℕ, List, ◌++◌, take, refl, ap, ◌∙◌, arith}
-use Rattle.kd_device.specs.Twin.{Both, disk_of}
+use Rattle.std.proofs.Common.{◌≡◌, inl, inr, ⊎_elim, ℕ, List, ◌++◌, take, refl, sym, ap, subst, ◌∙◌, arith}
+use Rattle.kd_device.specs.Device.{Rose, SameFaults}
+use Rattle.kd_device.specs.Twin.{Both, disk_of, half_state}
 use Rattle.kd_device.specs.declared.half.Half.{Half}
+use Rattle.kd_device.specs.declared.half.Half.TheVariants.{First}
 use Rattle.kdcfile_double.specs.Opening.{SameFiles}
-use Rattle.utm_cli.specs.PromiseTwo.{FrameTwin, MayAttachTwo, SaidTwo, SaysPartTwo}
+use Rattle.utm_cli.specs.PromiseTwo.{FineTwo, FrameTwin, MayAttachTwo, SaidTwo, SaysPartTwo}
 
 -- ---- a line after files that stay
 
@@ -25,6 +27,17 @@ module _ (a m b : Both) where
   pub names_then : (base : List ℕ) → MayAttachTwo base a m → ((half : Half) → (disk_of half b).names ≡ (disk_of half m).names) → MayAttachTwo base a b
   names_then base may same half =
       ⊎_elim (λ is. inl (same half ∙ is)) (λ is. inr (same half ∙ is)) (may half)
+
+  -- no further call failed
+  pub fine_then : FineTwo a m → ((half : Half) → SameFaults (half_state half m) (half_state half b)) → FineTwo a b
+  fine_then h same = record {
+    spared = (h.spared.0, (same h.spared.0).disk ∙ h.spared.1);
+    line = ⊎_elim (λ none. inl ((same First).line ∙ none)) (λ rose. inr (rose.0, subst (λ (n : ℕ). Rose (disk_of rose.0 a).disk_faults n) (sym (same rose.0).disk) rose.1)) h.line;
+  }
+
+-- nothing was done
+pub none_failed : (a : Both) → FineTwo a a
+none_failed a = record { spared = (First, refl); line = inl refl }
 
 pub same_frame : (a : Both) → FrameTwin a a
 same_frame a = record { told = refl; first_faults = omega arith; second_faults = omega arith; line_faults = omega arith; moment = omega arith }

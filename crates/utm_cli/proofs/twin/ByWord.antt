@@ -8,8 +8,7 @@ use Rattle.kdcs_types.specs.declared.act.Act.TheVariants.{Emit}
 use Rattle.abstract_monitor.specs.Listing.{listing}
 use Rattle.abstract_monitor.specs.Trace.{bytes_of}
 use Rattle.std.proofs.lemmas.List.{append-nil}
-use Rattle.trail_run.specs.Auditing.{verdict_line}
-use Rattle.trail_run.specs.declared.trail_words.verdict.Verdict.TheVariants.{Holds}
+use Rattle.refusals.specs.declared.error.FileRefusal.{FileRefusal}
 use Rattle.audit_trail.specs.declared.entry.Trail.{Trail as Kept}
 use Rattle.utm_cli.specs.Asking.{Errand, audit_errand, looking_errand, looking_word, storing_word}
 use Rattle.utm_cli.specs.Parts.{looked_by}
@@ -18,10 +17,9 @@ use Rattle.utm_cli.specs.declared.errand.Looking.TheVariants as looking
 use Rattle.utm_cli.specs.declared.errand.Storing.{Storing}
 use Rattle.utm_cli.specs.declared.errand.Storing.TheVariants as storing
 use Rattle.utm_cli.specs.declared.errand.Work.{Work}
-use Rattle.utm_cli.specs.Doing.{HoldsAll, entry_count, own, trail_of}
+use Rattle.utm_cli.specs.Doing.{HoldsAll, held_line, own, trail_of}
 use Rattle.utm_cli.specs.declared.words.Word.{Word}
 use Rattle.utm_cli.specs.declared.words.Word.TheVariants.{Gen, Run, Show, Update, Trail, Audit, Make}
-use Rattle.utm_cli.specs.declared.twin.error.TwinRefusal.{TwinRefusal}
 use Rattle.utm_cli.specs.DoingTwo.{KeepsTwo, OpensTwo, OpeningRefusesTwo, RefusesTwoBy, RefusesTwo, StartsTwoBy, StartsTwo, acts_two, identity_of_two}
 use Rattle.utm_cli.specs.PromiseTwo.{AttachesBoth, AttachesTwoBy, EndsBy, IsFrontOfTwo, IsStopBy, IsStopOfRun, MayAttachTwo, MayAttachTwoBy, RanTwo, SaidTwo, SameNamesTwo, TellsTwo}
 use Rattle.utm_cli.proofs.twin.Answered.{names_then}
@@ -45,7 +43,7 @@ module _ (e : Errand) (keeps : KeepsTwo e.word) where
   pub kept_opens : (a : Both) (t : TableRows) → StartsTwo e a t → OpensTwo e a t
   kept_opens a t = by_kept (λ word. StartsTwoBy word e a t → OpensTwo e a t) (λ h. h) (λ h. h) e.word keeps
 
-  pub kept_refuses : (a : Both) (why : TwinRefusal) → OpeningRefusesTwo e a why → RefusesTwo e a why
+  pub kept_refuses : (a : Both) (why : FileRefusal) → OpeningRefusesTwo e a why → RefusesTwo e a why
   kept_refuses a why = by_kept (λ word. OpeningRefusesTwo e a why → RefusesTwoBy word e a why) (λ h. h) (λ h. h) e.word keeps
 
   pub kept_stop : (t : TableRows) (acts : List Act) (a b : Both) (c d out : List ℕ) → IsStopOfRun (identity_of_two e) t acts a b c d out → IsStopBy e.word (identity_of_two e) t acts a b c d out
@@ -126,7 +124,7 @@ by_looking P show trail looking.Listing = show
 by_looking P show trail (looking.Trail commands) = trail
 
 module _ (e : Errand) (base : List ℕ) (a b : Both) where
-  pub looking_refuses : (l : Looking) (why : TwinRefusal) → OpeningRefusesTwo e a why → RefusesTwoBy (looking_word l) e a why
+  pub looking_refuses : (l : Looking) (why : FileRefusal) → OpeningRefusesTwo e a why → RefusesTwoBy (looking_word l) e a why
   looking_refuses l why = by_looking (λ word. OpeningRefusesTwo e a why → RefusesTwoBy word e a why) (λ h. h) (λ h. h) l
 
   pub looking_attaches : (l : Looking) → AttachesBoth base a b → AttachesTwoBy (looking_word l) base a b
@@ -146,10 +144,6 @@ lists w looking.Listing lb = record { starts = λ a t h. h; from = λ a t h. h; 
 lists w (looking.Trail commands) lb =
     let e = looking_errand w (looking.Trail commands) in
     record { starts = λ a t h. h; from = λ a t h. h; stop = λ t a b c d out h. front_of (trail_of e t) a c d out h; ends = λ t a b h. said_of (trail_of e t) a b h }
-
--- the line of a trail that holds
-abbrev pub held_line : Errand → List ℕ
-held_line e = verdict_line (Holds (entry_count e.trail))
 
 pub judges : (w : Work) (trail : Kept) (lb : ℕ → List ℕ → List ℕ → List ℕ → Type 0) → SendsBeside (audit_errand w trail) lb (λ a t. HoldsAll (audit_errand w trail) (own (audit_errand w trail) t)) (λ t. held_line (audit_errand w trail))
 judges w trail lb =

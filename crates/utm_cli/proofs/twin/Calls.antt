@@ -10,9 +10,10 @@ use Rattle.kd_device.specs.Twin.{Both, disk_of, half_leaves, half_state}
 use Rattle.kd_device.specs.declared.half.Half.TheVariants.{First, Second}
 use Rattle.kdcfile_double.specs.Opening.{SameFiles}
 use Rattle.kdcs_types.specs.Tables.{TableRows}
-use Rattle.refusals.specs.Lines.{refusal_line}
-use Rattle.refusals.specs.Statuses.{IsOneOf, status_of}
+use Rattle.refusals.specs.Lines.{file_line, refusal_line}
+use Rattle.refusals.specs.Statuses.{IsOneOf, status_of, status_of_file}
 use Rattle.refusals.specs.Texts.{NoReadFailed}
+use Rattle.refusals.specs.declared.error.FileRefusal.{FileRefusal}
 use Rattle.refusals.specs.declared.error.Refusal.{Refusal}
 use Rattle.trail_run.specs.Auditing.{TrailsAreJudgedOnce}
 use Rattle.trail_run.specs.OwnAudits.{OwnTrailsHold}
@@ -20,21 +21,20 @@ use Rattle.utm_cli.specs.Answers.{AnswersOne, AnswersTwo}
 use Rattle.utm_cli.specs.Asking.{AreThere, Errand, Reading, ReadsForTwo, TellsTexts, app_of}
 use Rattle.utm_cli.specs.AskingLaws.{misses_of, there_not_missed}
 use Rattle.utm_cli.specs.Beside.{SendsRefusalTwo}
-use Rattle.utm_cli.specs.DoingTwo.{AuditRefusesTwo, KeepsTwo, RefusesTwoBy, RefusesTwo, StartsTwo}
+use Rattle.utm_cli.specs.Doing.{AuditRefuses}
+use Rattle.utm_cli.specs.DoingTwo.{KeepsTwo, RefusesTwoBy, RefusesTwo, StartsTwo}
 use Rattle.utm_cli.specs.Parts.{LooksBytes}
 use Rattle.utm_cli.specs.PartsTwo.{EndsErrandTwo}
 use Rattle.utm_cli.specs.Promise.{AsksNothing, CallFailed, Misses, Request, RunsLawfully, call}
 use Rattle.utm_cli.specs.PromiseTwo.{AttachesTwoBy, EndsTwo, FaultsTwo, FrameTwin, IsSingleCall, MayAttachTwoBy, ReadsTwo, SaidTwo, SaysPartTwo}
-use Rattle.utm_cli.specs.PromiseTwo.{SaysWhyTwo, StopsTwo, TellsTwo, status_of_two, twin_call, twin_line}
-use Rattle.utm_cli.specs.declared.twin.error.TwinRefusal.{TwinRefusal}
+use Rattle.utm_cli.specs.PromiseTwo.{SaysWhyTwo, StopsTwo, TellsTwo, twin_call}
 use Rattle.utm_cli.specs.declared.words.Word.{Word}
 use Rattle.utm_cli.specs.declared.words.Word.TheVariants.{Audit, Make}
 use Rattle.utm_cli.specs.Words.{IsOfBase, usage_line}
 use Rattle.utm_cli.proofs.Answering.{StopsHere, not_early, of_texts, run_other, some_form, texts_is, texts_other, usage_call}
 use Rattle.utm_cli.proofs.Audited.{own_errand, own_not_refused, own_reading_two}
-use Rattle.utm_cli.proofs.twin.Answered.{same_frame}
+use Rattle.utm_cli.proofs.twin.Answered.{fine_then, none_failed, same_frame}
 use Rattle.utm_cli.proofs.twin.ByWord.{none_attached}
-use Rattle.utm_cli.proofs.twin.Refused.{differs_one}
 use Rattle.utm_cli.proofs.twin.Stays.{none_said, stays_same, stays_stops}
 use Rattle.utm_cli.proofs.twin.beside.OneHalf.{files_two, first_refusal, names_two}
 
@@ -141,6 +141,7 @@ module _ (hold : OwnTrailsHold) (words : List (List ℕ)) (r r' : RoomState) (a 
     own_trails = λ told own. absurd (none told (Ok (own_errand hold IsSome words r own)) (own_reading_two hold IsSome words r own own.copies));
     device = λ is. faults_of a b (h.device is);
     device_told = λ told e said. absurd (none told (Ok e) said);
+    device_fine = λ not. let same = h.device_told not in record { spared = (First, same.disk); line = inl same.line };
     room = h.room;
     room_told = h.room_told;
     room_sure = h.room_sure;
@@ -182,8 +183,8 @@ module _ (hold : OwnTrailsHold) (words : List (List ℕ)) (r r' : RoomState) (la
       texts_names = λ told why said. let differ = only_one told (Err why) said in absurd cc;
       texts_only = λ told f said. with_room status h.code;
       file = λ told f said tells.
-          moved told f said (λ x. TellsTwo x.word a.told → (why : TwinRefusal) → RefusesTwo x a why → IsOneOf (status_of_two why ∷ 5 ∷ 6 ∷ 7 ∷ []) status × (IsTrue a.told → SaysPartTwo (twin_line why) a b))
-          (λ own why refuses. (or_room (status_of_two why) status (h.refused own why refuses), λ told_twin. h.refused_part told_twin why refuses)) tells;
+          moved told f said (λ x. TellsTwo x.word a.told → (why : FileRefusal) → RefusesTwo x a why → IsOneOf (status_of_file why ∷ 5 ∷ 6 ∷ 7 ∷ []) status × (IsTrue a.told → SaysPartTwo (file_line why) a b))
+          (λ own why refuses. (or_room (status_of_file why) status (h.refused own why refuses), λ told_twin. h.refused_part told_twin why refuses)) tells;
       file_only = λ told f said tells. moved told f said (λ x. TellsTwo x.word a.told → IsOneOf (4 ∷ 8 ∷ []) status → SaysWhyTwo x status a b) (λ own code. h.refused_only code own) tells;
       done = λ told f said tells. moved told f said (λ x. TellsTwo x.word a.told → status ≡ 0 → EndsTwo x a b lb) (λ own zero. h.done zero own) tells;
       accepted = λ told f t said tells. moved told f said (λ x. TellsTwo x.word a.told → StartsTwo x a t → IsOneOf (0 ∷ 5 ∷ 6 ∷ 7 ∷ []) status) (λ own starts. or_room 0 status (h.accepted own t starts)) tells;
@@ -197,14 +198,14 @@ module _ (hold : OwnTrailsHold) (words : List (List ℕ)) (r r' : RoomState) (la
           none_refused status h.code
           (λ code.
           let refused =
-          moved told (own_errand hold IsSome words r own) (own_reading_two hold IsSome words r own own.copies) (λ x. x.word ≡ Audit → (why : TwinRefusal) × AuditRefusesTwo x why)
+          moved told (own_errand hold IsSome words r own) (own_reading_two hold IsSome words r own own.copies) (λ x. x.word ≡ Audit → (why : FileRefusal) × AuditRefuses x why)
           (λ is.
           let said = h.refused_only code (subst (λ (w : Word). TellsTwo w a.told) (sym is) tt) in
           (said.0, subst (λ (w : Word). RefusesTwoBy w e a said.0) is said.1)) refl in
-          let one_refusal = differs_one (own_errand hold IsSome words r own) refused.0 refused.1 in
-          own_not_refused hold IsSome words r own once one_refusal.0 one_refusal.1);
+          own_not_refused hold IsSome words r own once refused.0 refused.1);
       device = h.device;
       device_told = λ told f said told_twin five. h.device_told five told_twin;
+      device_fine = h.fine;
       room = λ six. absurd (run_other status 6 h.code refl six);
       room_told = λ not. fine;
       room_sure = λ six. absurd (run_other status 6 h.code refl six);
@@ -257,6 +258,7 @@ module _ (hold : OwnTrailsHold) (words : List (List ℕ)) (r r' : RoomState) (la
       own_trails = λ told own. absurd (none told (own_errand hold IsSome words r own) (own_reading_two hold IsSome words r own own.copies));
       device = λ five. inl (h.failed five);
       device_told = λ told e said. absurd (none told e said);
+      device_fine = λ not. fine_then a a b (none_failed a) (h.fine not);
       room = λ six. absurd (not_so 6 refl six);
       room_told = λ not. fine;
       room_sure = λ six. absurd (not_so 6 refl six);
@@ -294,7 +296,7 @@ module _ (hold : OwnTrailsHold) (words : List (List ℕ)) (r r' : RoomState) (la
       texts_said = λ told why said is. absurd (late_refused status late is);
       texts_names = λ told why said half. refl;
       texts_only = λ told e said. late_errand status late;
-      file = λ told e said tells why refuses. (late_of (status_of_two why) status late, λ told_twin. none_said (twin_line why) a a la la (stays_same a la));
+      file = λ told e said tells why refuses. (late_of (status_of_file why) status late, λ told_twin. none_said (file_line why) a a la la (stays_same a la));
       file_only = λ told e said tells is. absurd (late_file status late is);
       done = λ told e said tells is. absurd (not_early status 0 late (omega arith) is);
       accepted = λ told e t said tells starts. late_of 0 status late;
@@ -306,6 +308,7 @@ module _ (hold : OwnTrailsHold) (words : List (List ℕ)) (r r' : RoomState) (la
       own_trails = λ told own. late_of 0 status late;
       device = λ is. absurd (not_early status 5 late (omega arith) is);
       device_told = λ told e said told_twin is. absurd (not_early status 5 late (omega arith) is);
+      device_fine = λ not. none_failed a;
       room = room;
       room_told = room_told;
       room_sure = room_sure;

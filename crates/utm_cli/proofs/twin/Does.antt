@@ -12,30 +12,29 @@ use Rattle.kd_device.specs.declared.half.Half.TheVariants.{First, Second}
 use Rattle.kdcs_types.specs.Tables.{TableRows}
 use Rattle.kdcfile_double.specs.Mended.{BothRest}
 use Rattle.kdcfile_double.specs.Opening.{IsRefusedTwo, IsSpent, IsTwoOfOtherTexts}
-use Rattle.kdcfile_double.specs.Twice.{IsInUse, IsOpen, RoseAt, SameFaultsAt, Twice}
+use Rattle.kdcfile_double.specs.Twice.{FineTwice, IsInUse, IsOpen, RoseAt, SameFaultsAt, Twice}
 use Rattle.kdcfile_double.specs.declared.error.TwinOpenError.{TwinOpenError}
 use Rattle.kdcfile_double.specs.declared.error.TwinOpenError.TheVariants as opening
 use Rattle.kdcfile_copies.specs.Beside.{LeavesFrontBoth, SaidBoth, SameDisk}
 use Rattle.twin_run.specs.Running.{FailsTwice, RanTwice, WithinTwice}
-use Rattle.device_acts.specs.declared.warm_start.error.OpenError.{OpenError}
-use Rattle.device_acts.specs.declared.warm_start.error.OpenError.TheVariants as script
 use Rattle.utm_cli.specs.Asking.{Errand}
 use Rattle.utm_cli.specs.declared.words.Word.{Word}
-use Rattle.utm_cli.specs.declared.twin.error.TwinCallError.{TwinCallError}
-use Rattle.utm_cli.specs.declared.twin.error.TwinCallError.TheVariants.{Refused, Failed, Memory}
-use Rattle.utm_cli.specs.declared.twin.error.TwinRefusal.{TwinRefusal}
-use Rattle.utm_cli.specs.declared.twin.error.TwinRefusal.TheVariants as why
-use Rattle.utm_cli.specs.TwinCauses.{device_cause, opening_cause, twin_cause}
+use Rattle.refusals.specs.declared.error.FileRefusal.{FileRefusal}
+use Rattle.refusals.specs.declared.error.FileRefusal.TheVariants as why
+use Rattle.utm_cli.specs.declared.error.CallError.{CallError}
+use Rattle.utm_cli.specs.declared.error.CallError.TheVariants.{Refused, Failed, Memory}
+use Rattle.utm_cli.specs.Causes.{of_device, of_twin}
 use Rattle.utm_cli.specs.TwoAnswersLaws.{started_two_once}
 use Rattle.utm_cli.specs.DoingTwo.{KeepsTwo, OpensTwo, OpeningRefusesTwo, RefusesTwo, StartsTwo, acts_two, identity_of_two}
 use Rattle.utm_cli.specs.OpeningTwo.{LeavesOpeningTwo, StaysAsItIs}
 use Rattle.utm_cli.specs.Parts.{LooksBytes}
 use Rattle.utm_cli.specs.PartsTwo.{DoesTwo}
-use Rattle.utm_cli.specs.PromiseTwo.{AttachesBoth, AttachesTwoBy, FrameTwin, IsFrontOfTwo, IsStopBy, MayAttachTwo, MayAttachTwoBy, SaidTwo, TellsTwo, WasBehind}
+use Rattle.utm_cli.specs.PromiseTwo.{AttachesBoth, AttachesTwoBy, FineTwo, FrameTwin, IsFrontOfTwo, IsStopBy, MayAttachTwo, MayAttachTwoBy, SaidTwo, TellsTwo, WasBehind}
 use Rattle.utm_cli.proofs.twin.ByWord.{SendsBeside, attached_then_none, kept_attaches, kept_ends, kept_is_no_trail, kept_may, kept_opens}
 use Rattle.utm_cli.proofs.twin.ByWord.{kept_refuses, kept_starts, kept_stop, kept_told, none_attached, tells_two}
-use Rattle.utm_cli.proofs.twin.Keeps.{attached_then, faults_of_run, fails_of_run, frames_then, ran_from, stop_of_run}
-use Rattle.utm_cli.proofs.twin.Answered.{same_frame}
+use Rattle.utm_cli.proofs.twin.Keeps.{attached_then, faults_of_run, fails_of_run, fine_of_run, frames_then, ran_from, stop_of_run}
+use Rattle.utm_cli.proofs.HandedOn.{acts_failed, device_refuses_nothing, given, handed, no_cause, opening_failed, same_reason}
+use Rattle.utm_cli.proofs.twin.Answered.{fine_then, same_frame}
 use Rattle.utm_cli.proofs.twin.Stays.{front_after, said_after, same_files, silent_stop, stays_same, stays_stops}
 
 -- ---- errors
@@ -49,53 +48,18 @@ no_success : {T E : Type 0} (P : Type 0) (Q : E → Type 0) (r : Result T E) →
 no_success P Q (Ok x) h = absurd h
 no_success P Q (Err e) h = tt
 
--- what was handed on, and is this
-handed : {T E : Type 0} (r : Result T E) (y z : E) → IsErrAnd r (λ x. x ≡ y) → IsErrOf r z → y ≡ z
-handed (Ok x) y z gives is = absurd gives
-handed {T} (Err x) y z gives is = sym gives ∙ err_is T x z is
-
-same_reason : (p q : TwinRefusal) → Refused p ≡ Refused q → p ≡ q
-same_reason p q is = cc
-
 -- the causes why two files are not opened
 module _ (U : Type 0) (e : Errand) (a : Both) where
   pub why_not_opened : (x : TwinOpenError)
       → (IsErrOf {T = U} (Err x) opening.NotKdcfile → IsTrue a.told → IsRefusedTwo e.application.generation e.fingerprint a.first.holds a.second.holds)
       → ((stored : List ℕ) → IsErrOf {T = U} (Err x) (opening.OtherGeneration stored) → IsTrue a.told → IsTwoOfOtherTexts stored e.fingerprint a.first.holds a.second.holds)
       → ((n : ℕ) → IsErrOf {T = U} (Err x) (opening.Spent n) → IsTrue a.told → IsSpent e.application.generation e.fingerprint n a.first.holds a.second.holds)
-      → (r : TwinRefusal) → twin_cause x ≡ Refused r → IsTrue a.told → OpeningRefusesTwo e a r
-  why_not_opened opening.NotKdcfile refused other spent r is told = subst (OpeningRefusesTwo e a) (same_reason why.NotKdcfile r is) (refused refl told)
-  why_not_opened (opening.OtherGeneration stored) refused other spent r is told = subst (OpeningRefusesTwo e a) (same_reason (why.OtherGeneration stored) r is) (other stored refl told)
-  why_not_opened (opening.Spent n) refused other spent r is told = subst (OpeningRefusesTwo e a) (same_reason why.Spent r is) (n, spent n refl told)
+      → (r : FileRefusal) → of_twin x ≡ Refused r → IsTrue a.told → OpeningRefusesTwo e a r
+  why_not_opened opening.NotKdcfile refused other spent r is told = inl (sym (same_reason why.NotKdcfile r is), refused refl told)
+  why_not_opened (opening.OtherGeneration stored) refused other spent r is told = inr (inl (stored, sym (same_reason (why.OtherGeneration stored) r is), other stored refl told))
+  why_not_opened (opening.Spent n) refused other spent r is told = inr (inr (n, sym (same_reason why.SequenceSpent r is), spent n refl told))
   why_not_opened opening.Failed refused other spent r is told = absurd cc
   why_not_opened opening.Memory refused other spent r is told = absurd cc
-
-pub opening_failed : (U : Type 0) (x : TwinOpenError) → twin_cause x ≡ Failed → IsErrOf {T = U} (Err x) opening.Failed
-opening_failed U opening.NotKdcfile is = absurd cc
-opening_failed U (opening.OtherGeneration stored) is = absurd cc
-opening_failed U (opening.Spent n) is = absurd cc
-opening_failed U opening.Failed is = refl
-opening_failed U opening.Memory is = absurd cc
-
-device_failed : (U : Type 0) (x : DeviceError) → device_cause x ≡ Failed → IsErrOf {T = U} (Err x) device.Failed
-device_failed U device.Failed is = refl
-device_failed U device.Memory is = absurd cc
-
-device_refuses_nothing : (x : DeviceError) (q : TwinRefusal) → device_cause x ≡ Refused q → ⊥
-device_refuses_nothing device.Failed q is = cc
-device_refuses_nothing device.Memory q is = cc
-
-script_failed_as : (U : Type 0) (x : OpenError) → opening_cause x ≡ Failed → IsErrOf {T = U} (Err x) script.Failed
-script_failed_as U script.NotKdcfile is = absurd cc
-script_failed_as U (script.OtherGeneration stored) is = absurd cc
-script_failed_as U script.Failed is = refl
-script_failed_as U script.Memory is = absurd cc
-
-pub acts_failed : {T : Type 0} (U : Type 0) (x : DeviceError) (r : Result T TwinCallError) → IsErrAnd r (λ y. y ≡ device_cause x) → IsErrOf r Failed → IsErrOf {T = U} (Err x) device.Failed
-acts_failed U x r gives is = device_failed U x (handed r (device_cause x) Failed gives is)
-
-pub script_failed : {T : Type 0} (U : Type 0) (x : OpenError) (r : Result T TwinCallError) → IsErrAnd r (λ y. y ≡ opening_cause x) → IsErrOf r Failed → IsErrOf {T = U} (Err x) script.Failed
-script_failed U x r gives is = script_failed_as U x (handed r (opening_cause x) Failed gives is)
 
 -- ---- both files stay
 
@@ -131,12 +95,13 @@ module _ {T : Type 0} (both : T → Both) (leaves : T → ℕ → List ℕ → L
 
 module _ (e : Errand) (base : List ℕ) (a m : Both) (la lm : ℕ → List ℕ → List ℕ → List ℕ → Type 0) (looked : AreLookedAt e.word base a m la lm) where
   -- there is an error
-  pub stays_does : (r : Result Unit TwinCallError) (y : TwinCallError) → IsErrAnd r (λ z. z ≡ y) → ((q : TwinRefusal) → y ≡ Refused q → TellsTwo e.word a.told → RefusesTwo e a q) → (y ≡ Failed → RoseAt First a m ⊎ RoseAt Second a m) → DoesTwo e base r a m la lm
-  stays_does r y gives refused failed = record {
+  pub stays_does : (r : Result Unit CallError) (y : CallError) → IsErrAnd r (λ z. z ≡ y) → ((q : FileRefusal) → y ≡ Refused q → TellsTwo e.word a.told → RefusesTwo e a q) → (y ≡ Failed → RoseAt First a m ⊎ RoseAt Second a m) → ((y ≡ Failed → ⊥) → FineTwo a m) → DoesTwo e base r a m la lm
+  stays_does r y gives refused failed fine = record {
     done = no_success _ _ r gives;
     refused = λ q is tells. refused q (handed r y (Refused q) gives is) tells;
     failed = λ is. inr (failed (handed r y Failed gives is));
     failed_told = λ is told. inr (inr (failed (handed r y Failed gives is), (looked.still told).sent));
+    fine = λ none. fine (λ is. none (given r y Failed gives is));
     still = λ told none. looked.still told;
     left = λ told keeps. (looked.still told).files;
     any_moment = λ told t starts. stays_stops e t a m la lm (looked.still told) (looked.silent told) starts;
@@ -147,26 +112,26 @@ module _ (e : Errand) (base : List ℕ) (a m : Both) (la lm : ℕ → List ℕ �
   }
 
   -- nothing is done, for this reason
-  pub refused_does : (why : TwinRefusal) → RefusesTwo e a why → DoesTwo e base (Err (Refused why)) a m la lm
-  refused_does why refuses = stays_does (Err (Refused why)) (Refused why) refl (λ q same tells. subst (RefusesTwo e a) (same_reason why q same) refuses) (λ same. absurd cc)
+  pub refused_does : (why : FileRefusal) → RefusesTwo e a why → FineTwo a m → DoesTwo e base (Err (Refused why)) a m la lm
+  refused_does why refuses fine = stays_does (Err (Refused why)) (Refused why) refl (λ q same tells. subst (RefusesTwo e a) (same_reason why q same) refuses) (λ same. absurd cc) (λ none. fine)
 
   -- memory ran out
-  pub memory_does : (r : Result Unit TwinCallError) → IsErrAnd r (λ z. z ≡ Memory) → DoesTwo e base r a m la lm
-  memory_does r gives = stays_does r Memory gives (λ q is tells. absurd cc) (λ is. absurd cc)
+  pub memory_does : (r : Result Unit CallError) → IsErrAnd r (λ z. z ≡ Memory) → FineTwo a m → DoesTwo e base r a m la lm
+  memory_does r gives fine = stays_does r Memory gives (λ q is tells. absurd cc) (λ is. absurd cc) (λ none. fine)
 
   -- they are not opened
-  pub unlooked_does : (U : Type 0) (x : TwinOpenError) (r : Result Unit TwinCallError) → IsErrAnd r (λ z. z ≡ twin_cause x)
+  pub unlooked_does : (U : Type 0) (x : TwinOpenError) (r : Result Unit CallError) → IsErrAnd r (λ z. z ≡ of_twin x)
       → (IsErrOf {T = U} (Err x) opening.NotKdcfile → IsTrue a.told → IsRefusedTwo e.application.generation e.fingerprint a.first.holds a.second.holds)
       → ((stored : List ℕ) → IsErrOf {T = U} (Err x) (opening.OtherGeneration stored) → IsTrue a.told → IsTwoOfOtherTexts stored e.fingerprint a.first.holds a.second.holds)
       → ((n : ℕ) → IsErrOf {T = U} (Err x) (opening.Spent n) → IsTrue a.told → IsSpent e.application.generation e.fingerprint n a.first.holds a.second.holds)
-      → (IsErrOf {T = U} (Err x) opening.Failed → RoseAt First a m ⊎ RoseAt Second a m)
-      → ((q : TwinRefusal) → OpeningRefusesTwo e a q → RefusesTwo e a q) → (TellsTwo e.word a.told → IsTrue a.told) → DoesTwo e base r a m la lm
-  unlooked_does U x r gives refused other spent failed refuses told_of =
-      stays_does r (twin_cause x) gives (λ q is tells. refuses q (why_not_opened U e a x refused other spent q is (told_of tells))) (λ is. failed (opening_failed U x is))
+      → (IsErrOf {T = U} (Err x) opening.Failed → RoseAt First a m ⊎ RoseAt Second a m) → ((IsErrOf {T = U} (Err x) opening.Failed → ⊥) → FineTwo a m)
+      → ((q : FileRefusal) → OpeningRefusesTwo e a q → RefusesTwo e a q) → (TellsTwo e.word a.told → IsTrue a.told) → DoesTwo e base r a m la lm
+  unlooked_does U x r gives refused other spent failed fine refuses told_of =
+      stays_does r (of_twin x) gives (λ q is tells. refuses q (why_not_opened U e a x refused other spent q is (told_of tells))) (λ is. failed (opening_failed U x is)) (λ none. fine (λ is. none (ap of_twin (err_is U x opening.Failed is))))
 
   -- a line was said beside them
   module _ (b : Both) (lb : ℕ → List ℕ → List ℕ → List ℕ → Type 0) (Starts : Both → TableRows → Type 0) (line : TableRows → List ℕ) (sends : SendsBeside e lb Starts line) (t : TableRows) (from : TellsTwo e.word a.told → Starts a t) (once : IsTrue a.told → (u : TableRows) → Starts a u → line t ≡ line u) (text : List ℕ) (is_line : text ≡ line t)
-      (said : IsSaidBeside text m b lm lb) where
+      (said : IsSaidBeside text m b lm lb) (fine : FineTwo a m) where
     line_later : Rose m.line_faults b.line_faults → Rose a.line_faults b.line_faults
     line_later h = omega (arith, looked.frame.line_faults, h)
 
@@ -185,12 +150,13 @@ module _ (e : Errand) (base : List ℕ) (a m : Both) (la lm : ℕ → List ℕ �
     tells : IsTrue a.told → TellsTwo e.word a.told
     tells told = tells_two e.word a.told told
 
-    pub said_does : (r : Result Unit TwinCallError) → OnOk r (IsTrue m.told → SaidBoth text m b) → (IsErrOf r Failed → Rose m.line_faults b.line_faults) → ((q : TwinRefusal) → IsErrOf r (Refused q) → ⊥) → OnOk r (IsTrue a.told → AttachesTwoBy e.word base a b) → OnOk r (IsTrue a.told → (u : TableRows) → StartsTwo e a u → LooksBytes e u) → DoesTwo e base r a b la lb
-    said_does r ok failed none named bytes = record {
+    pub said_does : (r : Result Unit CallError) → OnOk r (IsTrue m.told → SaidBoth text m b) → (IsErrOf r Failed → Rose m.line_faults b.line_faults) → ((IsErrOf r Failed → ⊥) → b.line_faults ≡ m.line_faults) → ((q : FileRefusal) → IsErrOf r (Refused q) → ⊥) → OnOk r (IsTrue a.told → AttachesTwoBy e.word base a b) → OnOk r (IsTrue a.told → (u : TableRows) → StartsTwo e a u → LooksBytes e u) → DoesTwo e base r a b la lb
+    said_does r ok failed went none named bytes = record {
       done = on_ok_weaker r (λ h so. (t, sends.starts a t (from so), λ told. sends.ends t a b (subst (λ (l : List ℕ). SaidTwo l a b) is_line (said_after text a m b la lm lb (looked.still told) said.disks (h (told_m told)))))) ok;
       refused = λ q is so. absurd (none q is);
       failed = λ is. inl (line_later (failed is));
       failed_told = λ is told. inl (line_later (failed is));
+      fine = λ none. fine_then a m b fine (λ half. record { disk = ap (λ (x : Disk). x.disk_faults) (said.disks half); line = went none });
       still = λ told no. absurd (no t (sends.starts a t (from (tells told))));
       left = λ told keeps. same_files text a m b la lm lb (looked.still told) said.disks;
       any_moment = λ told u starts rest c d out left.
@@ -203,9 +169,9 @@ module _ (e : Errand) (base : List ℕ) (a m : Both) (la lm : ℕ → List ℕ �
     }
 
     -- or could not be said
-    pub unsaid_does : (U : Type 0) (x : DeviceError) (r : Result Unit TwinCallError) → IsErrAnd r (λ z. z ≡ device_cause x) → (IsErrOf {T = U} (Err x) device.Failed → Rose m.line_faults b.line_faults) → DoesTwo e base r a b la lb
-    unsaid_does U x r gives failed =
-        said_does r (no_success _ _ r gives) (λ is. failed (acts_failed U x r gives is)) (λ q is. device_refuses_nothing x q (handed r (device_cause x) (Refused q) gives is)) (no_success _ _ r gives) (no_success _ _ r gives)
+    pub unsaid_does : (U : Type 0) (x : DeviceError) (r : Result Unit CallError) → IsErrAnd r (λ z. z ≡ of_device x) → (IsErrOf {T = U} (Err x) device.Failed → Rose m.line_faults b.line_faults) → ((IsErrOf {T = U} (Err x) device.Failed → ⊥) → b.line_faults ≡ m.line_faults) → DoesTwo e base r a b la lb
+    unsaid_does U x r gives failed went =
+        said_does r (no_success _ _ r gives) (λ is. failed (acts_failed U x r gives is)) (λ none. went (no_cause U of_device x device.Failed r gives none)) (λ q is. device_refuses_nothing x q (handed r (of_device x) (Refused q) gives is)) (no_success _ _ r gives) (no_success _ _ r gives)
 
 -- both were attached before the line
 pub attached_before : (base : List ℕ) (a m b : Both) → ((half : Half) → SameDisk half m b) → AttachesBoth base a m → AttachesBoth base a b
@@ -220,13 +186,14 @@ opened_once e a t u h k = started_two_once e.application.generation e.fingerprin
 module _ (e : Errand) (keeps : KeepsTwo e.word) (base : List ℕ) (a m : Both) (la lm : ℕ → List ℕ → List ℕ → List ℕ → Type 0) (frame : FrameTwin a m) (sent : IsTrue a.told → m.sent ≡ a.sent)
     (any : IsTrue a.told → BothRest a la → (t : TableRows) → OpensTwo e a t → LeavesOpeningTwo (identity_of_two e) t a m lm) where
   -- they are not opened
-  pub unopened_does : (r : Result Unit TwinCallError) (y : TwinCallError) → IsErrAnd r (λ z. z ≡ y) → ((q : TwinRefusal) → y ≡ Refused q → IsTrue a.told → OpeningRefusesTwo e a q) → (y ≡ Failed → RoseAt First a m ⊎ RoseAt Second a m)
+  pub unopened_does : (r : Result Unit CallError) (y : CallError) → IsErrAnd r (λ z. z ≡ y) → ((q : FileRefusal) → y ≡ Refused q → IsTrue a.told → OpeningRefusesTwo e a q) → (y ≡ Failed → RoseAt First a m ⊎ RoseAt Second a m) → ((y ≡ Failed → ⊥) → FineTwo a m)
       → (IsTrue a.told → ((t : TableRows) → OpensTwo e a t → ⊥) → StaysAsItIs a m la lm) → (IsTrue a.told → MayAttachTwo base a m) → DoesTwo e base r a m la lm
-  unopened_does r y gives refused failed still names = record {
+  unopened_does r y gives refused failed went still names = record {
     done = no_success _ _ r gives;
     refused = λ q is tells. kept_refuses e keeps a q (refused q (handed r y (Refused q) gives is) (kept_told e keeps a.told tells));
     failed = λ is. inr (failed (handed r y Failed gives is));
     failed_told = λ is told. inr (inr (failed (handed r y Failed gives is), sent told));
+    fine = λ none. went (λ is. none (given r y Failed gives is));
     still = λ told none. still told (λ t opens. none t (kept_starts e keeps a t opens));
     left = λ told no. absurd (no keeps);
     any_moment = λ told t starts rest c d out left.
@@ -239,23 +206,25 @@ module _ (e : Errand) (keeps : KeepsTwo e.word) (base : List ℕ) (a m : Both) (
   }
 
   -- by a cause of the opening
-  pub unopened_as : (U : Type 0) (x : TwinOpenError) (r : Result Unit TwinCallError) → IsErrAnd r (λ z. z ≡ twin_cause x)
+  pub unopened_as : (U : Type 0) (x : TwinOpenError) (r : Result Unit CallError) → IsErrAnd r (λ z. z ≡ of_twin x)
       → (IsErrOf {T = U} (Err x) opening.NotKdcfile → IsTrue a.told → IsRefusedTwo e.application.generation e.fingerprint a.first.holds a.second.holds)
       → ((stored : List ℕ) → IsErrOf {T = U} (Err x) (opening.OtherGeneration stored) → IsTrue a.told → IsTwoOfOtherTexts stored e.fingerprint a.first.holds a.second.holds)
       → ((n : ℕ) → IsErrOf {T = U} (Err x) (opening.Spent n) → IsTrue a.told → IsSpent e.application.generation e.fingerprint n a.first.holds a.second.holds)
-      → (IsErrOf {T = U} (Err x) opening.Failed → RoseAt First a m ⊎ RoseAt Second a m)
+      → (IsErrOf {T = U} (Err x) opening.Failed → RoseAt First a m ⊎ RoseAt Second a m) → ((IsErrOf {T = U} (Err x) opening.Failed → ⊥) → FineTwo a m)
       → (IsTrue a.told → ((t : TableRows) → OpensTwo e a t → ⊥) → StaysAsItIs a m la lm) → (IsTrue a.told → MayAttachTwo base a m) → DoesTwo e base r a m la lm
-  unopened_as U x r gives refused other spent failed still names = unopened_does r (twin_cause x) gives (λ q is told. why_not_opened U e a x refused other spent q is told) (λ is. failed (opening_failed U x is)) still names
+  unopened_as U x r gives refused other spent failed went still names =
+      unopened_does r (of_twin x) gives (λ q is told. why_not_opened U e a x refused other spent q is told) (λ is. failed (opening_failed U x is)) (λ none. went (λ is. none (ap of_twin (err_is U x opening.Failed is)))) still names
 
   -- they are opened, and the errand's acts run over them
-  module _ (s : Twice) (t : TableRows) (some : IsOpen s) (opens : IsTrue a.told → OpensTwo e a t) (used : IsTrue a.told → (half : Half) → IsInUse half s ⊎ (s.lost ≡ Some half)) (fine : (half : Half) → IsInUse half s → SameFaultsAt half a m)
+  module _ (s : Twice) (t : TableRows) (some : IsOpen s) (opens : IsTrue a.told → OpensTwo e a t) (used : IsTrue a.told → (half : Half) → IsInUse half s ⊎ (s.lost ≡ Some half)) (opened : FineTwo a m) (fine : (half : Half) → IsInUse half s → SameFaultsAt half a m)
       (lost : (half : Half) → s.lost ≡ Some half → RoseAt half a m) (mended : IsTrue a.told → (half : Half) → s.mended ≡ Some half → WasBehind half a) (mended_all : IsTrue a.told → (half : Half) → WasBehind half a → (s.mended ≡ Some half) ⊎ (s.lost ≡ Some half)) (attaches : IsTrue a.told → AttachesBoth base a m) (b : Both) (lb : ℕ → List ℕ → List ℕ → List ℕ → Type 0) where
-    pub kept_does : (r : Result Unit TwinCallError) → WithinTwice (identity_of_two e) s t (acts_two e t) m b lm lb → OnOk r (IsTrue m.told → RanTwice (identity_of_two e) s t (acts_two e t) m b lb) → (IsErrOf r Failed → FailsTwice s m b) → ((q : TwinRefusal) → IsErrOf r (Refused q) → IsTrue m.told → ⊥) → DoesTwo e base r a b la lb
-    kept_does r within ran failed refused = record {
+    pub kept_does : (r : Result Unit CallError) → WithinTwice (identity_of_two e) s t (acts_two e t) m b lm lb → OnOk r (IsTrue m.told → RanTwice (identity_of_two e) s t (acts_two e t) m b lb) → (IsErrOf r Failed → FailsTwice s m b) → ((IsErrOf r Failed → ⊥) → FineTwice s m b) → ((q : FileRefusal) → IsErrOf r (Refused q) → IsTrue m.told → ⊥) → DoesTwo e base r a b la lb
+    kept_does r within ran failed went refused = record {
       done = on_ok_weaker r (λ h tells. (t, kept_starts e keeps a t (opens (kept_told e keeps a.told tells)), λ told. kept_ends e keeps t (acts_two e t) a b lb (ran_from (identity_of_two e) s t (acts_two e t) a m b frame within.frame lost (used told) (sent told) (mended told) lb fine (mended_all told) (h (told_m told))))) ran;
       refused = λ q is tells. absurd (refused q is (told_m (kept_told e keeps a.told tells)));
       failed = λ is. faults_of_run (identity_of_two e) s t (acts_two e t) a m b frame within.frame lost some (failed is);
       failed_told = λ is told. fails_of_run (identity_of_two e) s t (acts_two e t) a m b frame within.frame lost (used told) (failed is);
+      fine = λ none. fine_of_run (identity_of_two e) s t (acts_two e t) a m b frame within.frame lost opened fine (went none);
       still = λ told none. absurd (none t (kept_starts e keeps a t (opens told)));
       left = λ told no. absurd (no keeps);
       any_moment = λ told u starts rest c d out left.

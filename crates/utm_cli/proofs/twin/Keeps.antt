@@ -8,11 +8,11 @@ use Rattle.kd_device.specs.declared.half.Half.TheVariants.{First, Second}
 use Rattle.kdcs_types.specs.declared.act.Act.{Act}
 use Rattle.kdcs_types.specs.Tables.{TableRows}
 use Rattle.abstract_monitor.specs.Trace.{bytes_of}
-use Rattle.kdcfile_double.specs.Twice.{IsInUse, IsOpen, RoseAt, SameFaultsAt, Twice}
+use Rattle.kdcfile_double.specs.Twice.{FineTwice, IsInUse, IsOpen, RoseAt, SameFaultsAt, Twice}
 use Rattle.kdcfile_copies.specs.Beside.{file_of}
 use Rattle.twin_run.specs.Running.{CountsAs, FailsTwice, FrameTwice, IsCopyOfTables, IsCutTwice, RanTwice, WithinTwice, with_copies}
 use Rattle.utm_cli.specs.OpeningTwo.{LeavesOpeningTwo}
-use Rattle.utm_cli.specs.PromiseTwo.{AttachesBoth, FailsTwo, FaultsTwo, FrameTwin, IsCutOfTwo, IsStopOfRun, LeavesUnmadeTwo, RanTwo, WasBehind}
+use Rattle.utm_cli.specs.PromiseTwo.{AttachesBoth, FailsTwo, FaultsTwo, FineTwo, FrameTwin, IsCutOfTwo, IsStopOfRun, LeavesUnmadeTwo, RanTwo, WasBehind}
 use Rattle.utm_cli.proofs.twin.Stays.{silent_stop}
 
 -- ---- counts of faults only rise
@@ -56,6 +56,12 @@ module _ (i : Identity) (s : Twice) (t : TableRows) (acts : List Act) (a m b : B
   faults_of_run some (inl line) = inl (omega (arith, first.line_faults, line))
   faults_of_run (inl is_used) (inr all) = inr (inl (rose_later First a m b first (all First is_used)))
   faults_of_run (inr is_used) (inr all) = inr (inr (rose_later Second a m b first (all Second is_used)))
+
+  pub fine_of_run : FineTwo a m → ((half : Half) → IsInUse half s → SameFaultsAt half a m) → FineTwice s m b → FineTwo a b
+  fine_of_run opened fine h = record {
+    spared = (h.spared.0, h.spared.2 ∙ fine h.spared.0 h.spared.1);
+    line = ⊎_elim (λ none. ⊎_elim (λ same. inl (same ∙ none)) (λ rose. inr (rose.0, rose_later rose.0 a m b first rose.2)) h.line) (λ rose. inr (rose.0, rose_before rose.0 a m b second rose.1)) opened.line;
+  }
 
   module _ (used : (half : Half) → IsInUse half s ⊎ (s.lost ≡ Some half)) where
     pub fails_of_run : FailsTwice s m b → FailsTwo a b

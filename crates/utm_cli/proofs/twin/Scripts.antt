@@ -3,7 +3,7 @@ use Rattle.std.proofs.Common.{◌≡◌, ◌≤◌, ◌+◌, ℕ, List, refl, sy
 use Rattle.std.specs.Prelude.{sum_by, ◌^◌}
 use Rattle.kd_records.specs.Identity.{Identity}
 use Rattle.kd_device.specs.Twin.{Both}
-use Rattle.application_check.specs.Soundness.{AreLimits}
+use Rattle.application_types.specs.Soundness.{AreLimits}
 use Rattle.kdcfile_store.specs.Paged.{identity_with}
 use Rattle.kdcfile_store.specs.declared.store.StoreLimits.{StoreLimits}
 use Rattle.application_types.specs.Generation.{Generated}
@@ -12,13 +12,10 @@ use Rattle.kdcs_types.specs.Tables.{TableRows}
 use Rattle.abstract_monitor.specs.State.{Application}
 use Rattle.abstract_monitor.specs.declared.command.Command.{Command}
 use Rattle.abstract_monitor.specs.Commands.{started, acts_of}
-use Rattle.abstract_monitor.specs.Endings.{durable}
 use Rattle.abstract_monitor.specs.Trace.{history, trace}
 use Rattle.laws_of_states.specs.Applications.{IsApplication}
-use Rattle.laws_of_states.specs.Keeping.{HasFacts, IsScriptOf}
+use Rattle.laws_of_states.specs.Keeping.{HasFacts}
 use Rattle.laws_of_states.specs.Suits.{Suits}
-use Rattle.laws_of_states.specs.TablesStayLaws.{started_tables}
-use Rattle.laws_of_states.specs.EndsLaws.{durable_same}
 use Rattle.monitor_core.specs.CoreSteps.{durable_of, turns_of}
 use Rattle.monitor_core.specs.CoreValue.{CoreValue}
 use Rattle.kdcfile_double.specs.Opening.{KeepsTablesTwice, identity_twice}
@@ -27,10 +24,12 @@ use Rattle.twin_run.specs.Keeping.{one_more}
 use Rattle.twin_run.specs.Running.{IsRunningTwice, RanTwice, WithinTwice}
 use Rattle.utm_cli.specs.Asking.{CanRun, Errand, app_of}
 use Rattle.utm_cli.specs.Report.{report}
+use Rattle.utm_cli.proofs.Doing.{core_is, durable_is as durable_begun}
 use Rattle.utm_cli.specs.declared.words.Word.{Word}
 use Rattle.utm_cli.specs.declared.words.Word.TheVariants.{Gen, Run}
 use Rattle.device_acts.specs.Stands.{limits_of}
-use Rattle.utm_cli.specs.DoingTwo.{acts_two_by, acts_two, identity_of_two}
+use Rattle.utm_cli.specs.Doing.{acts_by, own}
+use Rattle.utm_cli.specs.DoingTwo.{acts_two, identity_of_two}
 
 -- the copies were made with the limits of the generation, with one page more
 pub made_for : (g : Generated) (fingerprint : List ℕ) (i : Identity) → i ≡ identity_twice g fingerprint → (l : StoreLimits) → l ≡ limits_of g → i ≡ one_more (identity_with l fingerprint)
@@ -51,7 +50,7 @@ module _ (i : Identity) (s : Twice) (identity : identity_of s ≡ i) (t : TableR
 
 module _ (e : Errand) (gen : e.word ≡ Gen) (acts : List Act) (made : acts ≡ report e.application.generation) (s : Twice) (identity : identity_of s ≡ identity_of_two e) (a b : Both) where
   report_is : (t : TableRows) → acts ≡ acts_two e t
-  report_is t = made ∙ sym (ap (λ (word : Word). acts_two_by word e t) gen)
+  report_is t = made ∙ sym (ap (λ (word : Word). acts_by word e (own e t)) gen)
 
   pub report_within : (la lb : ℕ → List ℕ → List ℕ → List ℕ → Type 0) → ((t : TableRows) → KeepsTablesTwice (identity_of s) s t → WithinTwice (identity_of s) s t acts a b la lb) → (t : TableRows) → KeepsTablesTwice (identity_of_two e) s t → WithinTwice (identity_of_two e) s t (acts_two e t) a b la lb
   report_within la lb h t keeps =
@@ -63,18 +62,9 @@ module _ (e : Errand) (gen : e.word ≡ Gen) (acts : List Act) (made : acts ≡ 
 
 -- ---- the script
 
--- a monitor that starts from these tables
-abbrev fresh : Errand → TableRows → CoreValue
-fresh e t = record { application = app_of e; state = started (app_of e) t; steps = 0 }
-
 module _ (e : Errand) (t : TableRows) (core : CoreValue) (application : core.application ≡ app_of e) (state : core.state ≡ started core.application t) (steps : core.steps ≡ 0) (suits : Suits e.application.generation t) where
-  core_is : core ≡ fresh e t
-  core_is =
-      let here : core.state ≡ started (app_of e) t = state ∙ ap (λ (app : Application). started app t) application in
-      λ i. record { application = application i; state = here i; steps = steps i }
-
   durable_is : durable_of core ≡ t
-  durable_is = ap durable_of core_is ∙ ap (durable e.application.generation) (started_tables (app_of e) t) ∙ durable_same e.application.generation t suits
+  durable_is = ap durable_of (core_is e t core application state steps) ∙ durable_begun e t core application state steps suits
 
   pub core_runs : CanRun e → HasFacts core.application core.state → AreLimits core.application.generation.limits → (s : Twice) → KeepsTablesTwice (identity_of_two e) s t → IsRunningTwice e.fingerprint core s
   core_runs can facts limits s keeps = record {
@@ -84,16 +74,13 @@ module _ (e : Errand) (t : TableRows) (core : CoreValue) (application : core.app
     keeps = subst (λ (app : Application). KeepsTablesTwice (identity_twice app.generation e.fingerprint) s (durable_of core)) (sym application) (subst (λ (u : TableRows). KeepsTablesTwice (identity_of_two e) s u) (sym durable_is) keeps);
   }
 
-  pub core_script : CanRun e → IsScriptOf core.application e.commands
-  core_script can = subst (λ (app : Application). IsScriptOf app e.commands) (sym application) can.names
-
   pub core_turns : CanRun e → core.steps + sum_by turns_of e.commands ≤ 10 ^ 18
   core_turns can = let turns = can.turns in omega (arith, steps, turns)
 
   module _ (run : e.word ≡ Run) where
     script_is : acts_of (history core.application core.state e.commands) ≡ acts_two e t
     unfolding trace
-    script_is = ap (λ (c : CoreValue). acts_of (history c.application c.state e.commands)) core_is ∙ sym (ap (λ (word : Word). acts_two_by word e t) run)
+    script_is = ap (λ (c : CoreValue). acts_of (history c.application c.state e.commands)) (core_is e t core application state steps) ∙ sym (ap (λ (word : Word). acts_by word e (own e t)) run)
 
     module _ (s : Twice) (keeps : KeepsTablesTwice (identity_of_two e) s t) (a b : Both) where
       pub script_within : (la lb : ℕ → List ℕ → List ℕ → List ℕ → Type 0) → WithinTwice (identity_of s) s (durable_of core) (acts_of (history core.application core.state e.commands)) a b la lb → WithinTwice (identity_of_two e) s t (acts_two e t) a b la lb
@@ -112,9 +99,6 @@ pub parts_made_for : (e : Errand) (s : Twice) (t : TableRows) → KeepsTablesTwi
 parts_made_for e s t keeps l made = made_for e.application.generation e.fingerprint (identity_of s) keeps.identity_is l made
 
 module _ (e : Errand) (t : TableRows) (core : CoreValue) (application : core.application ≡ app_of e) (state : core.state ≡ started core.application t) (steps : core.steps ≡ 0) (suits : Suits e.application.generation t) (commands : List Command) (is : commands ≡ e.commands) where
-  pub parts_script : CanRun e → IsScriptOf core.application commands
-  parts_script can = subst (λ (l : List Command). IsScriptOf core.application l) (sym is) (core_script e t core application state steps suits can)
-
   pub parts_turns : CanRun e → core.steps + sum_by turns_of commands ≤ 10 ^ 18
   parts_turns can = subst (λ (l : List Command). core.steps + sum_by turns_of l ≤ 10 ^ 18) (sym is) (core_turns e t core application state steps suits can)
 

@@ -6,29 +6,27 @@ ghost use Rattle.utm_cli.specs.{Asking.{CanRun, one_errand}, Beside.{SendsRefusa
 use crate::errand::OneFile;
 use crate::refusing::{Cause, refuse_for};
 use crate::run::run;
-use kd_device::{Half, HalfDevice, Origin, Twin};
+use kd_device::{Half, HalfDevice, HalfOrigin, Twin};
 use refusals::Status;
 use std::alloc::Global;
 use std::marker::Brand;
 
-// The answer goes into `status`: beside the twin it would keep the borrow of it.
-fn run_on<T: Twin, O: Origin>(
+fn run_on<T: Twin, O: HalfOrigin>(
     alloc: Global,
     twin: T,
     half: Half,
     base: &[u8],
     asked: OneFile,
-    status: &mut Status,
-) -> T
+) -> (T, Status)
     requires half { half ≡ O.half }
     requires since { IsSince O.half O.place (T.place twin) O.both (T.both twin) O.leaves (T.leaves twin) }
     requires can { CanRun (one_errand asked) }
-    ensures since { IsSince O.half O.place (T.place result) O.both (T.both result) O.leaves (T.leaves result) }
-    ensures ends { EndsOne (one_errand asked) base.now (half_state O.half (T.both twin)) (half_state O.half (T.both result)) (half_leaves O.half (T.leaves twin)) (half_leaves O.half (T.leaves result)) status.new.code }
+    ensures since { IsSince O.half O.place (T.place result.0) O.both (T.both result.0) O.leaves (T.leaves result.0) }
+    ensures ends { EndsOne (one_errand asked) base.now (half_state O.half (T.both twin)) (half_state O.half (T.both result.0)) (half_leaves O.half (T.leaves twin)) (half_leaves O.half (T.leaves result.0)) result.1.code }
 {
     let mut device: HalfDevice<T, O> = HalfDevice::new(twin, half);
-    *status = run(alloc, &mut device, base, asked);
-    device.into_twin()
+    let status = run(alloc, &mut device, base, asked);
+    (device.into_twin(), status)
 }
 
 /// Does what is asked for over one file, over the first disk. The second disk stays as it is.
@@ -38,33 +36,27 @@ pub(crate) fn run_first<T: Twin>(alloc: Global, twin: &mut T, base: &[u8], asked
     ensures second { disk_of Second (T.both twin.new) ≡ disk_of Second (T.both twin.old) }
     ensures frame { FrameTwin (T.both twin.old) (T.both twin.new) }
 {
-    let mut status = Status::MEMORY;
-    run_on::<&mut T, Brand>(alloc, twin, Half::First, base, asked, &mut status);
+    let (twin, status) = run_on::<&mut T, Brand>(alloc, twin, Half::First, base, asked);
+    let _ = twin;
     status
 }
 
-fn refuse_on<T: Twin, O: Origin>(
-    alloc: Global,
-    twin: T,
-    half: Half,
-    why: Cause,
-    status: &mut Status,
-) -> T
+fn refuse_on<T: Twin, O: HalfOrigin>(alloc: Global, twin: T, half: Half, why: Cause) -> (T, Status)
     requires half { half ≡ O.half }
     requires since { IsSince O.half O.place (T.place twin) O.both (T.both twin) O.leaves (T.leaves twin) }
-    ensures since { IsSince O.half O.place (T.place result) O.both (T.both result) O.leaves (T.leaves result) }
-    ensures refuses { SendsRefusal (status_for why) (line_for why) (half_state O.half (T.both twin)) (half_state O.half (T.both result)) status.new.code }
+    ensures since { IsSince O.half O.place (T.place result.0) O.both (T.both result.0) O.leaves (T.leaves result.0) }
+    ensures refuses { SendsRefusal (status_for why) (line_for why) (half_state O.half (T.both twin)) (half_state O.half (T.both result.0)) result.1.code }
 {
     let mut device: HalfDevice<T, O> = HalfDevice::new(twin, half);
-    *status = refuse_for(alloc, &mut device, why);
-    device.into_twin()
+    let status = refuse_for(alloc, &mut device, why);
+    (device.into_twin(), status)
 }
 
 /// Sends the line of its cause. Both files stay as they are.
 pub(crate) fn refuse_beside<T: Twin>(alloc: Global, twin: &mut T, why: Cause) -> Status
     ensures { SendsRefusalTwo (status_for why) (line_for why) (T.both twin.old) (T.both twin.new) result.code }
 {
-    let mut status = Status::MEMORY;
-    refuse_on::<&mut T, Brand>(alloc, twin, Half::First, why, &mut status);
+    let (twin, status) = refuse_on::<&mut T, Brand>(alloc, twin, Half::First, why);
+    let _ = twin;
     status
 }

@@ -2,19 +2,19 @@
 ghost use Rattle.std.specs.Prelude.{◌≡◌, ◌∷◌, [], IsSome, IsTrue, OnOk, IsErrOf, List, ℕ};
 ghost use Rattle.kdcs_types.specs.Tables.{TableRows};
 ghost use Rattle.laws_of_states.specs.Suits.{Suits};
-ghost use Rattle.kdcfile_double.specs.{Opening.{KeepsTablesTwice, SameFiles}, Twice.{IsKeptTwice, IsOpen, identity_of}};
-ghost use Rattle.refusals.specs.Statuses.{IsOneOf};
+ghost use Rattle.kdcfile_double.specs.{Opening.{KeepsTablesTwice, SameFiles}, Twice.{FineTwice, IsKeptTwice, IsOpen, identity_of}};
+ghost use Rattle.refusals.specs.{declared.error.FileRefusal.{FileRefusal}, Lines.{file_line}, Statuses.{IsOneOf, status_of_file}};
 ghost use Rattle.twin_run.specs.Running.{FailsTwice, RanTwice, WithinTwice};
 ghost use Rattle.utm_cli.specs.Asking.{CanRun, audit_errand, errand_for, gen_errand, looking_errand, run_errand, storing_errand, task_word};
-ghost use Rattle.utm_cli.specs.{declared.twin.error.TwinRefusal.{TwinRefusal}, DoingTwo.{KeepsTwo, RefusesTwo, StartsTwo, acts_two, identity_of_two}, Parts.{LooksBytes}, PartsTwo.{DoesTwo}};
-ghost use Rattle.utm_cli.specs.PromiseTwo.{AttachesTwoBy, EndsTwo, FailsTwo, FaultsTwo, FrameTwin, MayAttachTwoBy, SaysPartTwo, SaysWhyTwo, StopsTwo, TellsTwo, status_of_two, twin_line};
+ghost use Rattle.utm_cli.specs.{DoingTwo.{KeepsTwo, RefusesTwo, StartsTwo, acts_two, identity_of_two}, Parts.{LooksBytes}, PartsTwo.{DoesTwo}};
+ghost use Rattle.utm_cli.specs.PromiseTwo.{AttachesTwoBy, EndsTwo, FailsTwo, FaultsTwo, FineTwo, FrameTwin, MayAttachTwoBy, SaysPartTwo, SaysWhyTwo, StopsTwo, TellsTwo};
 
 use crate::errand::{Looking, Storing, Task, Work};
+use crate::error::CallError;
 use crate::generation_report::report;
 use crate::refusing::Cause;
-use crate::run::{lines_of, verdict_of};
+use crate::run::{audit_line, lines_of};
 use crate::twin::beside::refuse_beside;
-use crate::twin::error::{TwinCallError, TwinRefusal};
 use crate::twin::opening::{look_at_copies, open_copies};
 use abstract_monitor::Command;
 use application_read::Application;
@@ -26,9 +26,9 @@ use kdcfile_copies::kdcfile_halves::say_both;
 use kdcfile_double::TwinStore;
 use kdcs_types::Tables;
 use monitor_core::Core;
-use refusals::Status;
+use refusals::{FileRefusal, Status};
 use std::alloc::Global;
-use trail_run::trail_words::{Verdict, verdict_line, verdicts_exclude_each_other};
+use trail_run::trail_words::verdicts_exclude_each_other;
 use twin_run::{run_twice, send_twice};
 
 /// The report of the generation, over copies that were opened.
@@ -44,6 +44,7 @@ fn report_copies<T: Twin>(
     ensures any { (t : TableRows) → KeepsTablesTwice (identity_of_two (gen_errand work.now)) store t → WithinTwice (identity_of_two (gen_errand work.now)) store t (acts_two (gen_errand work.now) t) (T.both twin.old) (T.both twin.new) (T.leaves twin.old) (T.leaves twin.new) }
     ensures done { OnOk result (IsTrue (T.both twin.old).told → (t : TableRows) → KeepsTablesTwice (identity_of_two (gen_errand work.now)) store t → RanTwice (identity_of_two (gen_errand work.now)) store t (acts_two (gen_errand work.now) t) (T.both twin.old) (T.both twin.new) (T.leaves twin.new)) }
     ensures failed { IsErrOf result DeviceError.Failed → FailsTwice store (T.both twin.old) (T.both twin.new) }
+    ensures fine { (IsErrOf result DeviceError.Failed → ⊥) → FineTwice store (T.both twin.old) (T.both twin.new) }
 {
     let generation = &work.application.generation;
     let acts = report(alloc, generation)?;
@@ -75,6 +76,7 @@ fn script_copies<T: Twin>(
     ensures any { WithinTwice (identity_of_two (run_errand work commands.now)) store tables (acts_two (run_errand work commands.now) tables) (T.both twin.old) (T.both twin.new) (T.leaves twin.old) (T.leaves twin.new) }
     ensures done { OnOk result (IsTrue (T.both twin.old).told → RanTwice (identity_of_two (run_errand work commands.now)) store tables (acts_two (run_errand work commands.now) tables) (T.both twin.old) (T.both twin.new) (T.leaves twin.new)) }
     ensures failed { IsErrOf result OpenError.Failed → FailsTwice store (T.both twin.old) (T.both twin.new) }
+    ensures fine { (IsErrOf result OpenError.Failed → ⊥) → FineTwice store (T.both twin.old) (T.both twin.new) }
     ensures refused { IsErrOf result OpenError.NotKdcfile → IsTrue (T.both twin.old).told → ⊥ }
     ensures other { (stored : List ℕ) → IsErrOf result (OpenError.OtherGeneration stored) → IsTrue (T.both twin.old).told → ⊥ }
 {
@@ -104,7 +106,7 @@ fn run_copies<T: Twin>(
     tables: Tables,
     work: Work,
     storing: Storing,
-) -> Result<(), TwinCallError>
+) -> Result<(), CallError>
     requires can { CanRun (storing_errand work storing) }
     requires is_open { IsOpen store }
     requires tables { KeepsTablesTwice (identity_of_two (storing_errand work storing)) store tables }
@@ -112,8 +114,9 @@ fn run_copies<T: Twin>(
     requires kept { IsTrue (T.both twin.old).told → IsKeptTwice store (T.both twin.old) (T.leaves twin.old) }
     ensures any { WithinTwice (identity_of_two (storing_errand work storing)) store tables (acts_two (storing_errand work storing) tables) (T.both twin.old) (T.both twin.new) (T.leaves twin.old) (T.leaves twin.new) }
     ensures done { OnOk result (IsTrue (T.both twin.old).told → RanTwice (identity_of_two (storing_errand work storing)) store tables (acts_two (storing_errand work storing) tables) (T.both twin.old) (T.both twin.new) (T.leaves twin.new)) }
-    ensures failed { IsErrOf result TwinCallError.Failed → FailsTwice store (T.both twin.old) (T.both twin.new) }
-    ensures refused { (why : TwinRefusal) → IsErrOf result (TwinCallError.Refused why) → IsTrue (T.both twin.old).told → ⊥ }
+    ensures failed { IsErrOf result CallError.Failed → FailsTwice store (T.both twin.old) (T.both twin.new) }
+    ensures fine { (IsErrOf result CallError.Failed → ⊥) → FineTwice store (T.both twin.old) (T.both twin.new) }
+    ensures refused { (why : FileRefusal) → IsErrOf result (CallError.Refused why) → IsTrue (T.both twin.old).told → ⊥ }
 {
     match storing {
         Storing::Report => Ok(report_copies(alloc, twin, store, &work)?),
@@ -130,7 +133,7 @@ fn keep_copies<T: Twin>(
     base: &[u8],
     work: Work,
     storing: Storing,
-) -> Result<(), TwinCallError>
+) -> Result<(), CallError>
     requires can { CanRun (storing_errand work storing) }
     requires double { IsSome work.application.generation.double }
     ensures { DoesTwo (storing_errand work storing) base.now result (T.both twin.old) (T.both twin.new) (T.leaves twin.old) (T.leaves twin.new) }
@@ -147,7 +150,7 @@ fn look_copies<T: Twin>(
     base: &[u8],
     work: Work,
     looking: Looking,
-) -> Result<(), TwinCallError>
+) -> Result<(), CallError>
     requires can { CanRun (looking_errand work looking) }
     requires double { IsSome work.application.generation.double }
     ensures { DoesTwo (looking_errand work looking) base.now result (T.both twin.old) (T.both twin.new) (T.leaves twin.old) (T.leaves twin.new) }
@@ -164,17 +167,11 @@ fn audit_copies<T: Twin>(
     twin: &mut T,
     work: &Work,
     trail: Trail,
-) -> Result<(), TwinCallError>
+) -> Result<(), CallError>
     requires can { CanRun (audit_errand work.now trail) }
     ensures { (base : List ℕ) → DoesTwo (audit_errand work.now trail) base result (T.both twin.old) (T.both twin.new) (T.leaves twin.old) (T.leaves twin.new) }
 {
-    let verdict = verdict_of(alloc, work, trail)?;
-    if let Verdict::Differs(number) = verdict {
-        return Err(TwinCallError::Refused(TwinRefusal::Differs(number)));
-    }
-    let Ok(line) = verdict_line(alloc, &verdict) else {
-        return Err(TwinCallError::Memory);
-    };
+    let line = audit_line(alloc, work, trail)?;
     Ok(say_both(twin, line.as_bytes())?)
 }
 
@@ -185,7 +182,7 @@ fn over_copies<T: Twin>(
     base: &[u8],
     work: Work,
     task: Task,
-) -> Result<(), TwinCallError>
+) -> Result<(), CallError>
     requires can { CanRun (errand_for work task) }
     requires double { IsSome work.application.generation.double }
     ensures { DoesTwo (errand_for work task) base.now result (T.both twin.old) (T.both twin.new) (T.leaves twin.old) (T.leaves twin.new) }
@@ -193,7 +190,7 @@ fn over_copies<T: Twin>(
     match task {
         Task::Store(storing) => keep_copies(alloc, twin, base, work, storing),
         Task::Look(looking) => look_copies(alloc, twin, base, work, looking),
-        Task::Update => Err(TwinCallError::Refused(TwinRefusal::Double)),
+        Task::Update => Err(CallError::Refused(FileRefusal::TwoCopies)),
         Task::Audit(trail) => audit_copies(alloc, twin, &work, trail),
     }
 }
@@ -210,12 +207,13 @@ pub(crate) fn double<T: Twin>(
     requires double { IsSome work.application.generation.double }
     ensures code { IsOneOf (0 ∷ 4 ∷ 5 ∷ 7 ∷ 8 ∷ []) result.code }
     ensures done { result.code ≡ 0 → TellsTwo (task_word task) (T.both twin.old).told → EndsTwo (errand_for work task) (T.both twin.old) (T.both twin.new) (T.leaves twin.new) }
-    ensures refused { TellsTwo (task_word task) (T.both twin.old).told → (why : TwinRefusal) → RefusesTwo (errand_for work task) (T.both twin.old) why → IsOneOf (status_of_two why ∷ 5 ∷ 7 ∷ []) result.code }
-    ensures refused_part { IsTrue (T.both twin.old).told → (why : TwinRefusal) → RefusesTwo (errand_for work task) (T.both twin.old) why → SaysPartTwo (twin_line why) (T.both twin.old) (T.both twin.new) }
+    ensures refused { TellsTwo (task_word task) (T.both twin.old).told → (why : FileRefusal) → RefusesTwo (errand_for work task) (T.both twin.old) why → IsOneOf (status_of_file why ∷ 5 ∷ 7 ∷ []) result.code }
+    ensures refused_part { IsTrue (T.both twin.old).told → (why : FileRefusal) → RefusesTwo (errand_for work task) (T.both twin.old) why → SaysPartTwo (file_line why) (T.both twin.old) (T.both twin.new) }
     ensures refused_only { IsOneOf (4 ∷ 8 ∷ []) result.code → TellsTwo (task_word task) (T.both twin.old).told → SaysWhyTwo (errand_for work task) result.code (T.both twin.old) (T.both twin.new) }
     ensures accepted { TellsTwo (task_word task) (T.both twin.old).told → (t : TableRows) → StartsTwo (errand_for work task) (T.both twin.old) t → IsOneOf (0 ∷ 5 ∷ 7 ∷ []) result.code }
     ensures device { result.code ≡ 5 → FaultsTwo (T.both twin.old) (T.both twin.new) }
     ensures device_told { result.code ≡ 5 → IsTrue (T.both twin.old).told → FailsTwo (T.both twin.old) (T.both twin.new) }
+    ensures fine { (result.code ≡ 5 → ⊥) → FineTwo (T.both twin.old) (T.both twin.new) }
     ensures left { IsTrue (T.both twin.old).told → (KeepsTwo (task_word task) → ⊥) → SameFiles (T.both twin.old) (T.both twin.new) }
     ensures any_moment { IsTrue (T.both twin.old).told → (t : TableRows) → StartsTwo (errand_for work task) (T.both twin.old) t → StopsTwo (errand_for work task) t (T.both twin.old) (T.both twin.new) (T.leaves twin.old) (T.leaves twin.new) }
     ensures bytes { result.code ≡ 0 → IsTrue (T.both twin.old).told → (t : TableRows) → StartsTwo (errand_for work task) (T.both twin.old) t → LooksBytes (errand_for work task) t }
@@ -226,8 +224,8 @@ pub(crate) fn double<T: Twin>(
     verdicts_exclude_each_other();
     match over_copies(alloc, twin, base, work, task) {
         Ok(()) => Status::DONE,
-        Err(TwinCallError::Failed) => Status::DEVICE,
-        Err(TwinCallError::Memory) => Status::MEMORY,
-        Err(TwinCallError::Refused(why)) => refuse_beside(alloc, twin, Cause::Files(why)),
+        Err(CallError::Failed) => Status::DEVICE,
+        Err(CallError::Memory) => Status::MEMORY,
+        Err(CallError::Refused(why)) => refuse_beside(alloc, twin, Cause::Files(why)),
     }
 }

@@ -6,9 +6,9 @@ ghost use Rattle.laws_of_states.specs.Suits.{Suits};
 ghost use Rattle.device_acts.specs.Stands.{AreTables};
 ghost use Rattle.kdcfile_double.specs.{Twice.{IsInUse, IsKeptTwice, IsOpen, NoneRose, RoseAt, SameFaultsAt}, Mended.{BothRest}, MakingLaws.{RestsBoth}};
 ghost use Rattle.kdcfile_double.specs.Opening.{IsRefusedTwo, IsSpent, IsTwoOfOtherTexts, KeepsTablesTwice, StartsFromTwo, identity_twice};
-ghost use Rattle.utm_cli.specs.{PromiseTwo.{AttachesBoth, FrameTwin, MayAttachTwo, WasBehind}, OpeningTwo.{AttachesHalf, LeavesOpeningTwo, MayAttachHalf, StaysAsItIs}};
+ghost use Rattle.utm_cli.specs.{PromiseTwo.{AttachesBoth, FineTwo, FrameTwin, MayAttachTwo, WasBehind}, OpeningTwo.{AttachesHalf, LeavesOpeningTwo, MayAttachHalf, StaysAsItIs}};
 
-use application_check::kdcdef_check::Generation;
+use application_types::generation::Generation;
 use kd_device::{DeviceError, Half, Twin};
 use kdcfile_double::{TwinOpenError, TwinStore};
 use kdcs_types::Tables;
@@ -91,6 +91,7 @@ pub(crate) fn open_copies<T: Twin>(
     ensures names { IsTrue (T.both twin.old).told → MayAttachTwo base.now (T.both twin.old) (T.both twin.new) }
     ensures named { OnOk result (IsTrue (T.both twin.old).told → AttachesBoth base.now (T.both twin.old) (T.both twin.new)) }
     ensures failed { IsErrOf result TwinOpenError.Failed → RoseAt First (T.both twin.old) (T.both twin.new) ⊎ RoseAt Second (T.both twin.old) (T.both twin.new) }
+    ensures went { (IsErrOf result TwinOpenError.Failed → ⊥) → FineTwo (T.both twin.old) (T.both twin.new) }
     ensures frame { FrameTwin (T.both twin.old) (T.both twin.new) }
 {
     attach_both(alloc, twin, base)?;
@@ -118,6 +119,7 @@ pub(crate) fn look_at_copies<T: Twin>(
     ensures names { IsTrue (T.both twin.old).told → MayAttachTwo base.now (T.both twin.old) (T.both twin.new) }
     ensures named { OnOk result (IsTrue (T.both twin.old).told → AttachesBoth base.now (T.both twin.old) (T.both twin.new)) }
     ensures failed { IsErrOf result TwinOpenError.Failed → RoseAt First (T.both twin.old) (T.both twin.new) ⊎ RoseAt Second (T.both twin.old) (T.both twin.new) }
+    ensures went { (IsErrOf result TwinOpenError.Failed → ⊥) → FineTwo (T.both twin.old) (T.both twin.new) }
     ensures frame { FrameTwin (T.both twin.old) (T.both twin.new) }
 {
     attach_both(alloc, twin, base)?;

@@ -6,8 +6,15 @@ use Rattle.device_acts.specs.Acting.{AsksDisk, acts_most, content_after}
 use Rattle.device_acts.specs.ActingLaws.{halts_at_once}
 use Rattle.device_acts.specs.ErrorsLaws.{no_error, ok_unless}
 use Rattle.device_acts.specs.ContentsLaws.{content_goes, commit_within, commit_sent, rest_stands, line_within, line_sent}
+use Rattle.device_acts.specs.PatchingLaws.{of_changes}
 use Rattle.device_acts.specs.WritingLaws.{commit_begun, none_begun, quiet_begun}
 use Rattle.device_acts.proofs.acts.do_act.Goals as goal
+
+pub commit-requires-clause-changes : goal.commit-requires-clause-changes
+commit-requires-clause-changes g c = of_changes c.in_ok-patch-in-Commit.patch c.in-Commit.changes c.in_ok-patch-in-Commit.ensures
+
+pub returns-in-Emit-clause-ready : goal.returns-in-Emit-clause-ready
+returns-in-Emit-clause-ready g c = on_ok_weaker c.say.result (λ said. c.say.ensures.ready c.requires.ready) c.say.ensures.sent
 
 pub returns-in_err-commit-in-Commit-clause-any : goal.returns-in_err-commit-in-Commit-clause-any
 returns-in_err-commit-in-Commit-clause-any g c =

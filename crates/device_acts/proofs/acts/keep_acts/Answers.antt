@@ -13,6 +13,7 @@ use Rattle.device_acts.proofs.acts.keep_acts.Goals as goal
 
 pub loop-act-init : goal.loop-act-init
 loop-act-init g c = record {
+  ready = c.requires.ready;
   identity = refl;
   place = refl;
   content = refl;
@@ -49,6 +50,7 @@ loop-act-preserved g c =
     let act = c.act-item.result in
     let acts = c.args.acts.now in
     record {
+      ready = c.in_ok-do_act.ensures.ready;
       identity = c.do_act.ensures.identity ∙ c.loop-act.invariant.identity;
       place = c.do_act.ensures.place ∙ c.loop-act.invariant.place;
       content = content_more now acts i act c.act-item.is c.loop-act-test.true (g.K.Keeper.kept c.args.keeper.now) next c.loop-act.invariant.content c.in_ok-do_act.ensures.content;

@@ -6,6 +6,7 @@ use Rattle.device_acts.proofs.acts.keep_acts.Given as goal
 
 abbrev pub invariant-loop-act : goal.invariant-loop-act
 invariant-loop-act g l = record {
+  ready : g.K.Keeper.ready l.keeper;
   identity : g.K.Keeper.identity l.keeper ≡ g.K.Keeper.identity l.fn.keeper;
   place : g.K.Keeper.place l.keeper ≡ g.K.Keeper.place l.fn.keeper;
   content : g.K.Keeper.kept l.keeper ≡ content_after (g.K.Keeper.kept l.fn.keeper) (take l.act-index l.acts);

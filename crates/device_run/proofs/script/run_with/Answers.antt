@@ -6,7 +6,7 @@ use Rattle.abstract_monitor.specs.Commands.{acts_of}
 use Rattle.abstract_monitor.specs.Trace.{history}
 use Rattle.laws_of_states.specs.Cut.{commits_in}
 use Rattle.device_acts.specs.Acting.{LineOrDisk}
-use Rattle.script_run.specs.ResultsLaws.{handed_on}
+use Rattle.monitor_core.specs.ResultsLaws.{handed_on}
 use Rattle.device_run.specs.Keeping.{RanWith, StepsWriteWith, StopsWith, WithinStepsWith}
 use Rattle.device_run.specs.SteppingLaws.{steps_ran}
 use Rattle.device_run.specs.StoringLaws.{steps_write}
@@ -48,23 +48,23 @@ pub returns-in_err-_last-clause-place : goal.returns-in_err-_last-clause-place
 returns-in_err-_last-clause-place g c = given (λ k. g.K.Keeper.place k ≡ g.K.Keeper.place c.args.keeper.now) {x = c.run_script.new.sink.keeper.now} (cc c.in_err-_last.ensures.failed.same_place) _ (let same = c.in_err-_last.ensures.failed.same_place in search rules)
 
 pub returns-clause-any : goal.returns-clause-any
-returns-clause-any g c = given (λ k. WithinStepsWith g.K.Keeper.stands c.args.fingerprint.now c.args.core (history c.args.core.application c.args.core.state c.args.commands.now) (g.K.Keeper.state c.args.keeper.now) (g.K.Keeper.state k) (g.K.Keeper.leaves c.args.keeper.now) (g.K.Keeper.leaves k)) c.in_ok-_last.ensures.took.within _ (let same = c.in_ok-_last.ensures.took.same_place in search rules)
+returns-clause-any g c = given (λ k. WithinStepsWith g.K.Keeper.stands c.args.fingerprint.now c.args.core (history c.args.core.application c.args.core.state c.args.commands.now) (g.K.Keeper.state c.args.keeper.now) (g.K.Keeper.state k) (g.K.Keeper.leaves c.args.keeper.now) (g.K.Keeper.leaves k)) c.in_ok-_last.ensures.took.1.within _ (let same = c.in_ok-_last.ensures.took.1.same_place in search rules)
 
 pub returns-clause-put : goal.returns-clause-put
-returns-clause-put g c = given (λ k. StepsWriteWith g.K.Keeper.stands g.K.Reopens.commit_most c.args.fingerprint.now c.args.core (history c.args.core.application c.args.core.state c.args.commands.now) (g.K.Keeper.state c.args.keeper.now) (g.K.Keeper.state k) (g.K.Keeper.leaves k)) (steps_write g.K.Keeper.stands g.K.Reopens.commit_most g.K.Keeper.fine g.met.K.Keeper.fine_goes c.args.fingerprint.now c.args.core _ (history c.args.core.application c.args.core.state c.args.commands.now) _ _ _ _ _ _ (g.met.K.Keeper.file_stands c.run_script.new.sink.keeper.now) c.in_ok-_last.ensures.took.did c.in_ok-_last.ensures.took.put) _ (let same = c.in_ok-_last.ensures.took.same_place in search rules)
+returns-clause-put g c = given (λ k. StepsWriteWith g.K.Keeper.stands g.K.Reopens.commit_most c.args.fingerprint.now c.args.core (history c.args.core.application c.args.core.state c.args.commands.now) (g.K.Keeper.state c.args.keeper.now) (g.K.Keeper.state k) (g.K.Keeper.leaves k)) (steps_write g.K.Keeper.stands g.K.Reopens.commit_most g.K.Keeper.fine g.met.K.Keeper.fine_goes c.args.fingerprint.now c.args.core _ (history c.args.core.application c.args.core.state c.args.commands.now) _ _ _ _ _ _ (g.met.K.Keeper.file_stands c.run_script.new.sink.keeper.now) c.in_ok-_last.ensures.took.1.did c.in_ok-_last.ensures.took.1.put) _ (let same = c.in_ok-_last.ensures.took.1.same_place in search rules)
 
 pub returns-clause-done : goal.returns-clause-done
-returns-clause-done g c = λ told. given (λ k. RanWith c.args.fingerprint.now c.args.core (history c.args.core.application c.args.core.state c.args.commands.now) (g.K.Keeper.identity k) (g.K.Keeper.kept k) (g.K.Keeper.file k) (g.K.Keeper.state c.args.keeper.now) (g.K.Keeper.state k) (g.K.Keeper.leaves k)) (steps_ran _ _ _ _ _ _ _ _ _ _ _ c.in_ok-_last.ensures.took.did told) _ (let same = c.in_ok-_last.ensures.took.same_place in search rules)
+returns-clause-done g c = λ told. given (λ k. RanWith c.args.fingerprint.now c.args.core (history c.args.core.application c.args.core.state c.args.commands.now) (g.K.Keeper.identity k) (g.K.Keeper.kept k) (g.K.Keeper.file k) (g.K.Keeper.state c.args.keeper.now) (g.K.Keeper.state k) (g.K.Keeper.leaves k)) (steps_ran _ _ _ _ _ _ _ _ _ _ _ c.in_ok-_last.ensures.took.1.did told) _ (let same = c.in_ok-_last.ensures.took.1.same_place in search rules)
 
 pub returns-clause-counted : goal.returns-clause-counted
 returns-clause-counted g c = λ told.
     let most = script_commits c.steps_commit_once.ensures.turns c.steps_commit_once.ensures.commands c.args.core.application c.args.core.state c.args.commands.now in
     let few : 0 + commits_in (acts_of (history c.args.core.application c.args.core.state c.args.commands.now)) < 2 ^ 64 = omega (arith, most, c.requires.steps) in
-    let is = c.in_ok-_last.ensures.took.counted told few in
+    let is = c.in_ok-_last.ensures.took.1.counted told few in
     omega (arith, is)
 
 pub returns-clause-fine : goal.returns-clause-fine
-returns-clause-fine g c = λ none. given (λ k. g.K.Keeper.fine (g.K.Keeper.state c.args.keeper.now) (g.K.Keeper.state k)) c.in_ok-_last.ensures.took.did.acts.calls _ (let same = c.in_ok-_last.ensures.took.same_place in search rules)
+returns-clause-fine g c = λ none. given (λ k. g.K.Keeper.fine (g.K.Keeper.state c.args.keeper.now) (g.K.Keeper.state k)) c.in_ok-_last.ensures.took.1.did.acts.calls _ (let same = c.in_ok-_last.ensures.took.1.same_place in search rules)
 
 pub returns-clause-place : goal.returns-clause-place
-returns-clause-place g c = given (λ k. g.K.Keeper.place k ≡ g.K.Keeper.place c.args.keeper.now) {x = c.run_script.new.sink.keeper.now} (cc c.in_ok-_last.ensures.took.same_place) _ (let same = c.in_ok-_last.ensures.took.same_place in search rules)
+returns-clause-place g c = given (λ k. g.K.Keeper.place k ≡ g.K.Keeper.place c.args.keeper.now) {x = c.run_script.new.sink.keeper.now} (cc c.in_ok-_last.ensures.took.1.same_place) _ (let same = c.in_ok-_last.ensures.took.1.same_place in search rules)

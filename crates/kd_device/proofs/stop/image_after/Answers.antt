@@ -1,7 +1,7 @@
 use Rattle.std.proofs.Common.{◌∙◌, take, length, ap, sym, subst, arith, List}
 use Rattle.std.proofs.lemmas.List.{take_all}
 use Rattle.kd_device.specs.declared.call.Call.{Call}
-use Rattle.kd_device.specs.History.{Disk, Moment, Stands, after}
+use Rattle.kd_device.specs.History.{Disk, Moment, StopLeaves, after}
 use Rattle.kd_device.specs.Recording.{events}
 use Rattle.kd_device.proofs.Replay.{inside_at, after_more, done_at}
 use Rattle.kd_device.proofs.stop.image_after.Goals as goal
@@ -16,7 +16,7 @@ loop-call-preserved c =
     let before = λ (s : Moment). (after s (events a.kept.now (take c.loop-call.call-index a.calls.now))).disk a.disk in
     record {
       bytes = λ s is. e.bytes (before s) (i.bytes s is) ∙ ap (λ (d : Disk). d.bytes) (sym (more s));
-      image = λ s is. subst (λ (d : Disk). Stands d c.advance_if.new.image.items) (sym (more s)) (e.image (before s) (i.bytes s is) (i.image s is));
+      image = λ s is. subst (λ (d : Disk). StopLeaves d c.advance_if.new.image.items) (sym (more s)) (e.image (before s) (i.bytes s is) (i.image s is));
       zero = λ is. c.next_digits-digits.ensures.old is (i.zero is);
       one = λ is. c.next_digits-digits.ensures.new is (i.one is);
       old = λ zero s is. e.old (before s) (c.part_of-part.ensures.old (i.zero zero)) (i.bytes s is) (i.old zero s is) ∙ ap (λ (d : Disk). d.base) (sym (more s));
@@ -26,7 +26,7 @@ loop-call-preserved c =
 pub returns-clause-image : goal.returns-clause-image
 returns-clause-image c = λ s is.
     let a = c.args in let l = c.loop-call in
-    subst (λ (x : List Call). Stands ((after s (events a.kept.now x)).disk a.disk) l.image.items) (take_all l.call-index a.calls.now (omega arith)) (l.invariant.image s is)
+    subst (λ (x : List Call). StopLeaves ((after s (events a.kept.now x)).disk a.disk) l.image.items) (take_all l.call-index a.calls.now (omega arith)) (l.invariant.image s is)
 
 pub returns-clause-old : goal.returns-clause-old
 returns-clause-old c = λ zero s is.

@@ -1,11 +1,11 @@
 use Rattle.std.proofs.Common.{sym, subst}
 use Rattle.std.specs.Prelude.{IsTrue}
 use Rattle.kd_device.specs.declared.half.Half.TheVariants.{First, Second}
-use Rattle.kdcfile_double.specs.declared.error.TwinOpenError.TheVariants as to
+use Rattle.device_acts.specs.declared.warm_start.error.OpenError.TheVariants as opening
 use Rattle.kdcfile_double.specs.CommitLaws.{other_kept_at}
 use Rattle.kdcfile_double.specs.CommitTwoLaws.{faults_before, first_line, on_err, one_frame, two_line}
 use Rattle.kdcfile_double.specs.MakingLaws.{RestsBoth, first_rests_both, two_frames, two_rests}
-use Rattle.kdcfile_double.specs.OpenedLaws.{handed_on}
+use Rattle.kd_base.specs.ToolsLaws.{error_same}
 use Rattle.kdcfile_double.specs.Twice.{SparesOne, with_copies}
 use Rattle.kdcfile_double.proofs.opening.reload_both.Given.{Over}
 use Rattle.kdcfile_double.proofs.opening.reload_both.Goals.{After-reload-2}
@@ -25,16 +25,13 @@ returns-in_err-first-clause-rests g c = λ told.
     (c.reload.ensures.any_moment told) c.reload.ensures.other_half (c.reload.ensures.other_stays told)
 
 pub returns-in_err-first-clause-refused : goal.returns-in_err-first-clause-refused
-returns-in_err-first-clause-refused g c = λ is told. c.in_err-first.ensures.refused (handed_on _ _ c.from_residual.result c.in_err-first.field-0.0 to.NotKdcfile c.from_residual.ensures.1 is) told
+returns-in_err-first-clause-refused g c = λ is told. c.in_err-first.ensures.refused (error_same _ _ c.from_residual.result c.in_err-first.field-0.0 opening.NotKdcfile c.from_residual.ensures.1 is) told
 
-pub returns-in_err-first-clause-told : goal.returns-in_err-first-clause-told
-returns-in_err-first-clause-told g c = (
-  λ stored is. c.in_err-first.ensures.told.0 stored (handed_on _ _ c.from_residual.result c.in_err-first.field-0.0 (to.OtherGeneration stored) c.from_residual.ensures.1 is),
-  λ n is. c.in_err-first.ensures.told.1 n (handed_on _ _ c.from_residual.result c.in_err-first.field-0.0 (to.Spent n) c.from_residual.ensures.1 is),
-)
+pub returns-in_err-first-clause-other : goal.returns-in_err-first-clause-other
+returns-in_err-first-clause-other g c = λ stored is. c.in_err-first.ensures.other stored (error_same _ _ c.from_residual.result c.in_err-first.field-0.0 (opening.OtherGeneration stored) c.from_residual.ensures.1 is)
 
 pub returns-in_err-first-clause-failed : goal.returns-in_err-first-clause-failed
-returns-in_err-first-clause-failed g c = λ is. c.in_err-first.ensures.failed (handed_on _ _ c.from_residual.result c.in_err-first.field-0.0 to.Failed c.from_residual.ensures.1 is)
+returns-in_err-first-clause-failed g c = λ is. c.in_err-first.ensures.failed (error_same _ _ c.from_residual.result c.in_err-first.field-0.0 opening.Failed c.from_residual.ensures.1 is)
 
 pub returns-in_err-first-clause-frame : goal.returns-in_err-first-clause-frame
 returns-in_err-first-clause-frame g c =
@@ -52,16 +49,13 @@ returns-in_err-second-clause-rests g c = rests g (goal.at.returns-in_err-second-
 
 pub returns-in_err-second-clause-refused : goal.returns-in_err-second-clause-refused
 returns-in_err-second-clause-refused g c = λ is told.
-    c.in_err-second.ensures.refused (handed_on _ _ c.from_residual-in_err-second.result c.in_err-second.field-0.0 to.NotKdcfile c.from_residual-in_err-second.ensures.1 is) (subst IsTrue (sym c.reload.ensures.frame.told) told)
+    c.in_err-second.ensures.refused (error_same _ _ c.from_residual-in_err-second.result c.in_err-second.field-0.0 opening.NotKdcfile c.from_residual-in_err-second.ensures.1 is) (subst IsTrue (sym c.reload.ensures.frame.told) told)
 
-pub returns-in_err-second-clause-told : goal.returns-in_err-second-clause-told
-returns-in_err-second-clause-told g c = (
-  λ stored is. c.in_err-second.ensures.told.0 stored (handed_on _ _ c.from_residual-in_err-second.result c.in_err-second.field-0.0 (to.OtherGeneration stored) c.from_residual-in_err-second.ensures.1 is),
-  λ n is. c.in_err-second.ensures.told.1 n (handed_on _ _ c.from_residual-in_err-second.result c.in_err-second.field-0.0 (to.Spent n) c.from_residual-in_err-second.ensures.1 is),
-)
+pub returns-in_err-second-clause-other : goal.returns-in_err-second-clause-other
+returns-in_err-second-clause-other g c = λ stored is. c.in_err-second.ensures.other stored (error_same _ _ c.from_residual-in_err-second.result c.in_err-second.field-0.0 (opening.OtherGeneration stored) c.from_residual-in_err-second.ensures.1 is)
 
 pub returns-in_err-second-clause-failed : goal.returns-in_err-second-clause-failed
-returns-in_err-second-clause-failed g c = λ is. c.in_err-second.ensures.failed (handed_on _ _ c.from_residual-in_err-second.result c.in_err-second.field-0.0 to.Failed c.from_residual-in_err-second.ensures.1 is)
+returns-in_err-second-clause-failed g c = λ is. c.in_err-second.ensures.failed (error_same _ _ c.from_residual-in_err-second.result c.in_err-second.field-0.0 opening.Failed c.from_residual-in_err-second.ensures.1 is)
 
 pub returns-in_err-second-clause-frame : goal.returns-in_err-second-clause-frame
 returns-in_err-second-clause-frame g c =

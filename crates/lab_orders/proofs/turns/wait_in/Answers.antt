@@ -5,7 +5,7 @@ use Rattle.application_types.specs.Statements.{IsWithin}
 use Rattle.kdcs_types.specs.declared.key.ServiceId.{ServiceId}
 use Rattle.kdcs_types.specs.Keys.{id_cmp}
 use Rattle.laws_of_states.specs.Keeping.{HasFacts}
-use Rattle.step_scheduler.specs.Schedule.{IsTask, place_of, service_in}
+use Rattle.service_ends.specs.Schedule.{IsTask, place_of, service_in}
 use Rattle.service_ends.specs.declared.core_state.parts.MonitorParts.{MonitorParts}
 use Rattle.monitor_core.specs.CoreValue.{CoreValue, core_value}
 use Rattle.monitor_core.specs.WholeLaws.{is_task, seat_of}

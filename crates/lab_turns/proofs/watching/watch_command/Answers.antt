@@ -1,7 +1,7 @@
 use Rattle.std.proofs.Common.{◌≡◌, subst, rules}
 use Rattle.std.proofs.lemmas.Result.{IfOk-weaker}
 use Rattle.abstract_monitor.specs.Commands.{steps_of}
-use Rattle.lab_turns.specs.Running.{IsBeside, Told}
+use Rattle.lab_turns.specs.Running.{IsBeside, ToldSteps}
 use Rattle.lab_turns.proofs.watching.watch_command.Goals as goal
 
 -- what was lent is given back
@@ -11,7 +11,7 @@ given P h y is = subst P is h
 pub returns-clause-told : goal.returns-clause-told
 returns-clause-told g c =
     IfOk-weaker c.do_command.result _ _ (λ next took.
-    given (λ l. Told g.L.Listener.hears c.args.core (steps_of c.args.core.application c.args.core.state c.args.command.now) c.args.listener.now l next) took.told _ (let same = took.same_place in search rules))
+    given (λ l. ToldSteps g.L.Listener.hears c.args.core (steps_of c.args.core.application c.args.core.state c.args.command.now) c.args.listener.now l next) took.told _ (let same = took.same_place in search rules))
     c.do_command.ensures.took
 
 pub returns-clause-beside : goal.returns-clause-beside

@@ -1,7 +1,7 @@
 use Rattle.std.specs.Prelude.{min}
 use Rattle.std.proofs.Common.{arith, ap, sym, ◌≡◌, ◌-◌, ◌^◌, ◌∙◌, ℕ}
 use Rattle.kdcs_types.specs.Tables.{TableRows}
-use Rattle.application_check.specs.Soundness.{AreLimits}
+use Rattle.application_types.specs.Soundness.{AreLimits}
 use Rattle.application_types.specs.declared.kdcdef_types.limits.Limits.{Limits}
 use Rattle.application_types.specs.Generation.{Generated}
 use Rattle.abstract_monitor.specs.Charges.{total_charge}

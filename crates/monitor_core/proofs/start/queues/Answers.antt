@@ -1,6 +1,6 @@
 use Rattle.std.proofs.Common.{ap, ◌∙◌}
 use Rattle.application_types.specs.declared.kdcdef_types.limits.Limits.{Limits}
-use Rattle.step_scheduler.specs.Schedule.{all_free}
+use Rattle.service_ends.specs.Schedule.{all_free}
 use Rattle.monitor_core.proofs.start.queues.Goals as goal
 
 pub returns-clause-scheduler : goal.returns-clause-scheduler

@@ -18,8 +18,8 @@ pub hold-requires-clause-task : goal.hold-requires-clause-task
 hold-requires-clause-task c =
     task_then c.args.parts.now c.args.task c.args.id.now c.requires.whole c.requires.held c.next_statement.new.parts c.in_ok-next_statement.field-0 c.in_ok-next_statement.ensures.exact c.in_ok-next_statement.ensures.state c.requires.task
 
-pub settle-requires : goal.settle-requires
-settle-requires c =
+pub pass_point-requires : goal.pass_point-requires
+pass_point-requires c =
     record {
       serves = settles_serves c.args.parts.now c.args.task c.args.id.now c.requires.whole c.requires.held c.next_statement.new.parts c.in_ok-next_statement.ensures.generation c.in_ok-next_statement.ensures.units c.in-Settles.outcome
           (subst (StateThen c.args.parts.now c.args.task c.args.id.now c.requires.whole c.requires.held c.next_statement.new.parts) c.in-Settles.is c.in_ok-next_statement.ensures.state) c.in_ok-next_statement.ensures.indexed
@@ -76,12 +76,12 @@ returns-in-Held-clause-exact c =
 
 pub returns-in-Settles-clause-exact : goal.returns-in-Settles-clause-exact
 returns-in-Settles-clause-exact c =
-    IfOk-weaker c.settle.result _ _ (λ did e.
+    IfOk-weaker c.pass_point.result _ _ (λ did e.
     settles c.args.parts.now c.args.task c.args.id.now c.requires.whole c.requires.held c.next_statement.new.parts c.in_ok-next_statement.ensures.generation c.in_ok-next_statement.ensures.units c.in-Settles.outcome
     (subst (Exact c.args.parts.now c.args.task c.args.id.now c.requires.whole c.requires.held c.next_statement.new.parts) c.in-Settles.is c.in_ok-next_statement.ensures.exact)
     (subst (StateThen c.args.parts.now c.args.task c.args.id.now c.requires.whole c.requires.held c.next_statement.new.parts) c.in-Settles.is c.in_ok-next_statement.ensures.state)
-    (turned_to (state_of c.settle.new.parts) did) e)
-    c.settle.ensures.exact
+    (turned_to (state_of c.pass_point.new.parts) did) e)
+    c.pass_point.ensures.exact
 
 pub returns-in-Breaks-clause-exact : goal.returns-in-Breaks-clause-exact
 returns-in-Breaks-clause-exact c =

@@ -13,7 +13,7 @@ use Rattle.application_types.specs.Generation.{Generated}
 use Rattle.abstract_monitor.specs.declared.outcome.Outcome.{Outcome}
 use Rattle.abstract_monitor.specs.Charges.{total_charge}
 use Rattle.abstract_monitor.specs.Endings.{durable, refusal, row_after, synchronised}
-use Rattle.laws_of_states.specs.PointLaws.{Stands}
+use Rattle.laws_of_states.specs.PointLaws.{IsSoundlyOpen}
 use Rattle.open_transaction.specs.declared.open.OpenTransaction.{OpenTransaction}
 use Rattle.open_transaction.specs.Transactions.{transaction_of}
 use Rattle.table_fit.specs.Pages.{leaves_short}
@@ -26,7 +26,7 @@ use Rattle.sync_points.specs.RefusalsLaws.{full, passed, refusal_is, refused_by,
 use Rattle.sync_points.specs.ShortLaws.{points_short}
 use Rattle.sync_points.proofs.points.point_of.Goals as goal
 
-module _ (g : Generated) (t : TableRows) (w : OpenTransaction) (o : Outcome) (s : Stands g t w.id (transaction_of w)) where
+module _ (g : Generated) (t : TableRows) (w : OpenTransaction) (o : Outcome) (s : IsSoundlyOpen g t w.id (transaction_of w)) where
   abbrev gssbs : ℕ
   gssbs = length (with_changes t (changes_of w.areas.written)).gssbs
 

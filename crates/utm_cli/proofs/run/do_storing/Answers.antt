@@ -2,7 +2,8 @@ use Rattle.std.proofs.Common.{sym, subst}
 use Rattle.utm_cli.specs.Asking.{storing_errand}
 use Rattle.utm_cli.specs.Parts.{ErrandHalts, ErrandStops, ErrandWrites}
 use Rattle.utm_cli.specs.declared.errand.Storing.{Storing}
-use Rattle.utm_cli.proofs.Stopping.{at_error, script_failed}
+use Rattle.utm_cli.proofs.HandedOn.{script_failed}
+use Rattle.utm_cli.proofs.Stopping.{at_error}
 use Rattle.utm_cli.proofs.run.do_storing.Goals as goal
 
 pub returns-in_err-do_report-in-Report-clause-put : goal.returns-in_err-do_report-in-Report-clause-put

@@ -5,7 +5,12 @@ use Rattle.utm_cli.specs.Asking.{looking_errand}
 use Rattle.utm_cli.specs.Parts.{looked_by}
 use Rattle.utm_cli.proofs.ByWord.{looked_front, none_front}
 use Rattle.utm_cli.proofs.Ran.{said_then}
+use Rattle.utm_cli.proofs.Refused.{open_refused}
 use Rattle.utm_cli.proofs.run.look_over.Goals as goal
+
+pub returns-in_err-tables-clause-refused : goal.returns-in_err-tables-clause-refused
+returns-in_err-tables-clause-refused g c = λ r is told.
+    open_refused _ _ c.from_residual.result c.in_err-tables.field-0.0 r c.from_residual.ensures.1 is (looking_errand c.args.work c.args.looking) (g.D.Device.state c.args.device.now).holds (λ none. c.in_err-tables.ensures.refused none told) (λ stored other. c.in_err-tables.ensures.other stored other told)
 
 pub returns-in_err-tables-clause-front : goal.returns-in_err-tables-clause-front
 returns-in_err-tables-clause-front g c = λ told t opens. none_front (looked_by c.args.looking (looking_errand c.args.work c.args.looking) t) _ _ _ _ (c.look.ensures.rests told)

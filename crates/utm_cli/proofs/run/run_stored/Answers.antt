@@ -4,7 +4,7 @@ use Rattle.std.proofs.lemmas.Result.{on_ok_weaker}
 use Rattle.kdcs_types.specs.Tables.{TableRows}
 use Rattle.abstract_monitor.specs.Trace.{bytes_of}
 use Rattle.utm_cli.specs.Asking.{storing_errand}
-use Rattle.utm_cli.specs.Doing.{Opens, OpeningRefuses, own, acts_of}
+use Rattle.utm_cli.specs.Doing.{Opens, own, acts_of}
 use Rattle.device_acts.specs.Acting.{commits_nothing}
 use Rattle.device_acts.specs.ErrorsLaws.{no_error}
 use Rattle.utm_cli.proofs.Refused.{open_refused}
@@ -18,10 +18,7 @@ use Rattle.kd_device.specs.TimeLaws.{faults_then, rose_either, told_after}
 
 pub returns-in_err-store-clause-refused : goal.returns-in_err-store-clause-refused
 returns-in_err-store-clause-refused g c = λ r is told.
-    let holds = (g.D.Device.state c.args.device.now).holds in
-    open_refused _ _ c.from_residual.result c.in_err-store.field-0.0 r c.from_residual.ensures.1 is (OpeningRefuses (storing_errand c.args.work c.args.storing) holds)
-    (λ none. (c.in_err-store.ensures.refused none told))
-    (λ stored other. (c.in_err-store.ensures.other stored other told))
+    open_refused _ _ c.from_residual.result c.in_err-store.field-0.0 r c.from_residual.ensures.1 is (storing_errand c.args.work c.args.storing) (g.D.Device.state c.args.device.now).holds (λ none. c.in_err-store.ensures.refused none told) (λ stored other. c.in_err-store.ensures.other stored other told)
 
 pub returns-in_err-store-clause-still : goal.returns-in_err-store-clause-still
 returns-in_err-store-clause-still g c = λ told none. c.open.ensures.still told (not_empty (storing_errand c.args.work c.args.storing) (g.D.Device.state c.args.device.now).holds none)

@@ -1,26 +1,16 @@
 -- The first half of a twin is used as a device, and given back.
-use Rattle.std.proofs.Common.{◌≡◌, ◌≤◌, ℕ, List, refl, ap, subst, arith}
-use Rattle.std.specs.Prelude.{IsTrue}
+use Rattle.std.proofs.Common.{◌≡◌, ℕ, List, ap, subst, arith}
 use Rattle.kd_device.specs.Device.{Frame, SameFaults}
 use Rattle.kd_device.specs.declared.half.Half.{Half}
 use Rattle.kd_device.specs.declared.half.Half.TheVariants.{First, Second}
 use Rattle.kd_device.specs.Twin.{Both, Disk, disk_of, half_leaves, half_state}
 use Rattle.kd_device.specs.Apart.{IsSince}
-use Rattle.kd_device.specs.ApartLaws.{since_here}
 use Rattle.device_acts.specs.Said.{SameDisk}
 use Rattle.kdcfile_double.specs.Opening.{SameFiles}
 use Rattle.utm_cli.specs.PromiseTwo.{FrameTwin}
 use Rattle.utm_cli.specs.Asking.{Errand}
 use Rattle.utm_cli.specs.Beside.{SendsRefusal, SendsRefusalTwo}
 use Rattle.utm_cli.specs.Parts.{EndsOne}
-
--- the twin as it is now is an origin
-pub begins : (b : Both) (l : ℕ → List ℕ → List ℕ → List ℕ → Type 0) → ((c d out : List ℕ) → IsTrue b.told → l b.moment c d out → out ≡ b.sent)
-    → ((t u : ℕ) (c d out : List ℕ) → IsTrue b.told → t ≤ u → l u c d out → l t c d out) → (half : Half) (place : ℕ) → IsSince half place place b b l l
-begins b l sent earlier half place =
-    since_here half place place b b l l
-    (record { same_place = refl; same_both = refl; to = λ t c d out left. left; from = λ t c d out left. left })
-    sent earlier
 
 -- ---- the second disk is the same
 

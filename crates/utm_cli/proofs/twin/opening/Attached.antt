@@ -46,8 +46,8 @@ reserved_frame a b frame same = record {
   moment = frame.moment;
 }
 
-pub reserved_none_rose : (a b : Both) → ((half : Half) → disk_of half b ≡ disk_of half a) → NoneRose a b
-reserved_none_rose a b same = record { first_same = ap (λ (x : Disk). x.disk_faults) (same First); second_same = ap (λ (x : Disk). x.disk_faults) (same Second) }
+pub reserved_none_rose : (a b : Both) → ((half : Half) → disk_of half b ≡ disk_of half a) → b.line_faults ≡ a.line_faults → NoneRose a b
+reserved_none_rose a b same line = record { first_same = ap (λ (x : Disk). x.disk_faults) (same First); second_same = ap (λ (x : Disk). x.disk_faults) (same Second); line_same = line }
 
 -- ---- names
 

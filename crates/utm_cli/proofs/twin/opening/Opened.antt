@@ -15,7 +15,7 @@ use Rattle.kdcfile_copies.specs.BesideLaws.{pairs_then, pairs_weaker}
 use Rattle.kdcfile_double.specs.Causes.{of_device}
 use Rattle.kdcfile_double.specs.ChoiceLaws.{nothing_is_no_copy}
 use Rattle.kdcfile_double.specs.MakingLaws.{RestsBoth, empty_are_tables, rose_then}
-use Rattle.kdcfile_double.specs.Mended.{BothRest, IsMendingOne}
+use Rattle.kdcfile_double.specs.Mended.{BothRest, FineMending, IsMendingOne}
 use Rattle.kdcfile_double.specs.Opening.{AreEmpty, AreInUseSo, IsChosenTables, IsMakingTwo, KeepsTablesTwice, SameFiles, StartsFromTwo, Unchanged, identity_twice}
 use Rattle.kdcfile_double.specs.declared.error.TwinOpenError.{TwinOpenError}
 use Rattle.kdcfile_double.specs.declared.error.TwinOpenError.TheVariants as to
@@ -24,7 +24,7 @@ use Rattle.twin_run.specs.Running.{CountsAs}
 use Rattle.utm_cli.specs.TwoAnswersLaws.{nothing_counts}
 use Rattle.utm_cli.specs.BehindLaws.{AreOpened, empty_or_not}
 use Rattle.utm_cli.specs.OpeningTwo.{LeavesOpeningTwo, StaysAsItIs}
-use Rattle.utm_cli.specs.PromiseTwo.{LeavesUnmadeTwo}
+use Rattle.utm_cli.specs.PromiseTwo.{FineTwo, LeavesUnmadeTwo}
 
 -- ---- the tables that a stop leaves
 
@@ -159,6 +159,16 @@ keeps_after i s s' t made kept keeps = record { identity_is = made ∙ keeps.ide
 pub failed_after : (a e f : Both) (s : Twice) → NoneRose a e → IsOpen s → ((half : Half) → IsInUse half s → RoseAt half e f) → RoseAt First a f ⊎ RoseAt Second a f
 failed_after a e f s none (inl first) rose = inl (rose_then First a e f none (rose First first))
 failed_after a e f s none (inr second) rose = inr (rose_then Second a e f none (rose Second second))
+
+-- none did
+pub fine_of : (a b : Both) → NoneRose a b → FineTwo a b
+fine_of a b none = record { spared = (First, none.first_same); line = inl none.line_same }
+
+pub mended_fine : (a e f : Both) (s : Twice) → NoneRose a e → IsOpen s → FineMending s e f → FineTwo a f
+mended_fine a e f s none opened h = record {
+  spared = ⊎_elim (λ first. (First, h.spared First first ∙ none.first_same)) (λ second. (Second, h.spared Second second ∙ none.second_same)) opened;
+  line = ⊎_elim (λ same. inl (same ∙ none.line_same)) (λ rose. inr (rose.0, rose_then rose.0 a e f none rose.2)) h.line;
+}
 
 -- where an answer is a device's error handed on, and it is that a call failed, a call of the device did
 pub failed_of : (T U : Type 0) (r : Result T TwinOpenError) (e : DeviceError) → IsErrAnd r (λ x. x ≡ of_device e) → IsErrOf r to.Failed → IsErrOf {T = U} (Err e) device.Failed

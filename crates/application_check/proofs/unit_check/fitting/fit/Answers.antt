@@ -5,7 +5,7 @@ use Rattle.std.specs.Option.{option_or}
 use Rattle.application_types.specs.UnitText.{UnitText}
 use Rattle.application_check.specs.declared.unit_check.fault.FitFault.{FitFault}
 use Rattle.application_check.specs.Finding.{fit_fault}
-use Rattle.application_check.specs.Fitted.{AreFittedTo}
+use Rattle.application_types.specs.Fitted.{AreFittedTo}
 use Rattle.application_check.proofs.unit_check.Laws.{HasNoFault, no_fault, found_first}
 use Rattle.application_check.proofs.unit_check.Answered.{only_that, refused_for}
 use Rattle.application_check.proofs.unit_check.fitting.fit.Goals as goal
@@ -24,18 +24,20 @@ returns-in-Some-clause-refused c = refused_for c.args.generation.now c.args.unit
 
 faultless : (c : goal.In_ok-tacs_of) → HasNoFault c.args.generation.now c.args.units.items
 faultless c =
-    no_fault c.args.generation.now c.args.units.items c.max.ensures.sound c.requires.whole (ap (fit_fault c.args.generation.now) (sym c.as_slice-listed.ensures.value) ∙ of_both c.lacking.ensures c.units_fault.ensures ∙ sym c.in_default.ensures)
+    no_fault c.args.generation.now c.args.units.items c.max-limits.ensures.sound c.requires.whole (ap (fit_fault c.args.generation.now) (sym c.as_slice-listed.ensures.value) ∙ of_both c.lacking.ensures c.units_fault.ensures ∙ sym c.in_default.ensures)
 
-pub invariant_of-fitted : goal.invariant_of-fitted
-invariant_of-fitted c =
-    (λ name. c.in_ok-places.ensures name ∙ ap (λ (units : List UnitText). position_from (λ (u : UnitText). bytes_eq name u.name) 0 units) c.as_slice-listed.ensures.value, rw (c.max.ensures.limits, c.in_ok-tacs_of.ensures) (faultless c).fit)
+pub of-requires-clause-places : goal.of-requires-clause-places
+of-requires-clause-places c = λ name. c.in_ok-places.ensures name ∙ ap (λ (units : List UnitText). position_from (λ (u : UnitText). bytes_eq name u.name) 0 units) c.as_slice-listed.ensures.value
+
+pub of-requires-clause-fit : goal.of-requires-clause-fit
+of-requires-clause-fit c = rw (c.max-limits.ensures.limits, c.in_ok-tacs_of.ensures) (faultless c).fit
 
 pub returns-clause-found : goal.returns-clause-found
 returns-clause-found c =
     let free : HasNoFault c.args.generation.now c.args.units.items =
-    no_fault c.args.generation.now c.args.units.items c.max.ensures.sound c.requires.whole (ap (fit_fault c.args.generation.now) (sym c.as_slice-listed.ensures.value) ∙ of_both c.lacking.ensures c.units_fault.ensures ∙ sym c.in_default.ensures) in
+    no_fault c.args.generation.now c.args.units.items c.max-limits.ensures.sound c.requires.whole (ap (fit_fault c.args.generation.now) (sym c.as_slice-listed.ensures.value) ∙ of_both c.lacking.ensures c.units_fault.ensures ∙ sym c.in_default.ensures) in
     subst (AreFittedTo c.args.generation.now c.args.units.items) (sym c.in_ok-units.ensures)
-    (record { units = refl; limits = c.max.ensures.limits; tacs = c.in_ok-tacs_of.ensures; programs = free.programs; fit = free.fit })
+    (record { units = refl; limits = c.max-limits.ensures.limits; tacs = c.in_ok-tacs_of.ensures; programs = free.programs; fit = free.fit })
 
 pub returns-clause-only : goal.returns-clause-only
 returns-clause-only c = only_that c.args.generation.now c.args.units.items (Ok _) (returns-clause-found c) tt

@@ -12,7 +12,7 @@ pub returns-clause-fine : goal.returns-clause-fine
 returns-clause-fine g c = rw (← c.self.view_is) c.emit.ensures.fine
 
 pub returns-clause-spare : goal.returns-clause-spare
-returns-clause-spare g c = rw (← c.self.view_is) (c.emit.ensures.spare g.O.Origin.half)
+returns-clause-spare g c = rw (← c.self.view_is) (c.emit.ensures.spare g.O.HalfOrigin.half)
 
 pub returns-clause-content : goal.returns-clause-content
-returns-clause-content g c = rw (← c.self.view_is) (λ told. emits_half g.O.Origin.half _ _ _ _ c.args.piece.now c.emit.result (c.emit.ensures.content told g.O.Origin.half))
+returns-clause-content g c = rw (← c.self.view_is) (λ told. emits_half g.O.HalfOrigin.half _ _ _ _ c.args.piece.now c.emit.result (c.emit.ensures.content told g.O.HalfOrigin.half))

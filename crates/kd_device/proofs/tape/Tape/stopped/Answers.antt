@@ -1,6 +1,6 @@
 use Rattle.std.proofs.Common.{◌≡◌, ◌∙◌, ◌<◌, ℕ, List, [], length, get_or, ap, sym, subst, arith}
 use Rattle.std.proofs.lemmas.List.{length-map}
-use Rattle.kd_device.specs.History.{Event, Stands, AllDone, at_first, after, fresh}
+use Rattle.kd_device.specs.History.{Event, StopLeaves, AllDone, at_first, after, fresh}
 use Rattle.kd_device.specs.Recording.{FileNow, Recording}
 use Rattle.kd_device.proofs.Kept.{start_at}
 use Rattle.kd_device.proofs.Replay.{inside_take, front_is}
@@ -16,7 +16,7 @@ returns-clause-image c =
     let lt : a.disk < length files = omega (arith, c.requires.disk, ap (λ (l : List (List ℕ)). length l) starts, length-map files (λ (x : FileNow). x.start)) in
     let first : s.disk a.disk ≡ fresh c.start-start.result.now = ap (λ (l : List ℕ). fresh l) (ap (λ (l : List (List ℕ)). get_or l a.disk []) (sym starts) ∙ start_at files a.disk f lt (sym c.index.ensures) ∙ sym c.start-start.ensures) in
     let front = front_is r c.self.inside.kept.items c.deref-2.result.now c.self.inside.made.items c.deref.result.now a.call (ap (λ (x : Recording). x.events) c.self.view_is) c.deref-2.ensures.value c.deref.ensures.value in
-    subst (λ (es : List Event). Stands ((after s es).disk a.disk) c.from_vec.result) front (rw c.from_vec.ensures (c.in_ok-image.ensures.image s first))
+    subst (λ (es : List Event). StopLeaves ((after s es).disk a.disk) c.from_vec.result) front (rw c.from_vec.ensures (c.in_ok-image.ensures.image s first))
 
 pub returns-clause-old : goal.returns-clause-old
 returns-clause-old c = λ zero.

@@ -1,4 +1,7 @@
 use Rattle.kdcfile_copies.proofs.kdcfile_halves.making.make_half.Given as goal
 
-abbrev pub ghosts-make_on : goal.ghosts-make_on
-ghosts-make_on g a = record { half = a.half; place = a.twin.ghost_name; both = g.T.Twin.both a.twin.now; leaves = g.T.Twin.leaves a.twin.now }
+abbrev pub ghosts-make_on-O-HalfOrigin : goal.ghosts-make_on-O-HalfOrigin
+ghosts-make_on-O-HalfOrigin g a = record { half = a.half; leaves = g.T.Twin.leaves a.twin.now }
+
+abbrev pub ghosts-make_on-O-Origin : goal.ghosts-make_on-O-Origin
+ghosts-make_on-O-Origin g a = record { place = a.twin.ghost_name; both = g.T.Twin.both a.twin.now }

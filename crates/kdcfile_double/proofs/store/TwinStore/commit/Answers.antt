@@ -27,8 +27,8 @@ commit_two-requires g c =
       kept = λ told. kept_with (copies g here) (g.T.Twin.both c.args.twin.now) (g.T.Twin.leaves c.args.twin.now) (subst (λ (z : Twice). IsKeptTwice z (g.T.Twin.both c.args.twin.now) (g.T.Twin.leaves c.args.twin.now)) (sym it.same) (c.requires.kept told));
       patch = c.requires.patch;
       plain = c.requires.plain;
-      first_can = subst (λ (o : Option LoadedCopy). CanTakeIf o c.args.patch.now c.in-Ok.next) (sym (ap (λ (z : Twice). z.first) it.same)) (first_takes c.args.self.now c.args.patch.now c.in-Ok.next it.twice.alike (c.in-Ok.ensures.is_next c.requires.is_open) (c.in-Ok.ensures.small c.requires.is_open) c.requires.charge_before c.requires.charge_after);
-      second_can = subst (λ (o : Option LoadedCopy). CanTakeIf o c.args.patch.now c.in-Ok.next) (sym (ap (λ (z : Twice). z.second) it.same)) (second_takes c.args.self.now c.args.patch.now c.in-Ok.next it.twice.alike (c.in-Ok.ensures.is_next c.requires.is_open) (c.in-Ok.ensures.small c.requires.is_open) c.requires.charge_before c.requires.charge_after);
+      first_can = subst (λ (o : Option LoadedCopy). CanTakeIf o c.args.patch.now c.in-Ok.next) (sym (ap (λ (z : Twice). z.first) it.same)) (first_takes c.args.self.now c.args.patch.now c.in-Ok.next it.twice.alike c.in-Ok.ensures.is_next c.in-Ok.ensures.small c.requires.charge_before c.requires.charge_after);
+      second_can = subst (λ (o : Option LoadedCopy). CanTakeIf o c.args.patch.now c.in-Ok.next) (sym (ap (λ (z : Twice). z.second) it.same)) (second_takes c.args.self.now c.args.patch.now c.in-Ok.next it.twice.alike c.in-Ok.ensures.is_next c.in-Ok.ensures.small c.requires.charge_before c.requires.charge_after);
     }
 
 -- memory ran out between the halves

@@ -1,14 +1,14 @@
-use Rattle.std.proofs.Common.{◌≡◌, ◌⊎◌, IsTrue, Some, inl, sym, subst}
+use Rattle.std.proofs.Common.{◌≡◌, ◌⊎◌, IsTrue, Some, inl, refl, sym, subst}
 use Rattle.kd_device.specs.Twin.{disk_of, other}
 use Rattle.kd_device.specs.declared.half.Half.{Half}
 use Rattle.kd_device.specs.declared.half.Half.TheVariants.{First}
 use Rattle.kdcfile_copies.specs.declared.answer.LoadedCopy.{LoadedCopy}
 use Rattle.kdcfile_copies.specs.Copies.{IsCopyOf}
 use Rattle.kdcfile_store.specs.Paged.{HasFile}
-use Rattle.kdcfile_double.specs.Twice.{Twice, IsInUse, IsKeptTwice, copy_at, identity_of, sequence_of, content_of}
+use Rattle.kdcfile_double.specs.Twice.{Twice, IsInUse, IsKeptTwice, RoseAt, copy_at, identity_of, sequence_of, content_of}
 use Rattle.kdcfile_double.specs.Mended.{TakesAfter}
 use Rattle.kdcfile_double.specs.MendLaws.{after_mended, both_rest, copy_open, copying_pairs, each_rests, frame_of_halves, holds_copy, kept_lost, kept_mended, mended_pairs, on_ok, on_ok_then}
-use Rattle.kdcfile_double.specs.MendLaws.{target_is}
+use Rattle.kdcfile_double.specs.MendLaws.{copying_fine, mending_fine, other_other, target_is}
 use Rattle.kdcfile_double.proofs.store.TwinStore.mend.Goals as goal
 
 pub returns-in_default-clause-lost : goal.returns-in_default-clause-lost
@@ -69,3 +69,23 @@ returns-in-Err-Memory-clause-any_moment g c = λ told. copying_pairs c.in-Some.s
 
 pub returns-in-Err-Memory-clause-frame : goal.returns-in-Err-Memory-clause-frame
 returns-in-Err-Memory-clause-frame g c = frame_of_halves (g.T.Twin.both c.args.twin.now) (g.T.Twin.both c.copy_over.new.twin) c.copy_over.ensures.frame c.copy_over.ensures.names c.copy_over.ensures.sent
+
+pub returns-in_default-clause-went : goal.returns-in_default-clause-went
+returns-in_default-clause-went g c = λ none. record { spared = λ half used. refl; line = inl refl }
+
+pub returns-in-Ok-clause-went : goal.returns-in-Ok-clause-went
+returns-in-Ok-clause-went g c = λ none.
+    let b = g.T.Twin.both c.copy_over.new.twin in
+    let e = g.T.Twin.both c.take_mended.new.twin in
+    mending_fine c.in-Some.source c.args.self.now c.in-Some.ensures.some.0 c.in-Some.ensures.some.1 (g.T.Twin.both c.args.twin.now) b e (c.in-Ok.ensures.fine_source (λ is. absurd cc)) (c.in-Ok.ensures.fine_target (λ is. absurd cc)) c.copy_over.ensures.line
+    (subst (λ (h : Half). disk_of h e ≡ disk_of h b) (other_other c.in-Some.source) (subst (λ (h : Half). disk_of (other h) e ≡ disk_of (other h) b) c.other.ensures c.take_mended.ensures.other_half))
+    (subst (λ (h : Half). (e.line_faults ≡ b.line_faults) ⊎ RoseAt h b e) c.other.ensures c.take_mended.ensures.line)
+
+pub returns-in-Err-Target-clause-went : goal.returns-in-Err-Target-clause-went
+returns-in-Err-Target-clause-went g c = λ none. copying_fine c.in-Some.source c.args.self.now c.in-Some.ensures.some.0 c.in-Some.ensures.some.1 (g.T.Twin.both c.args.twin.now) (g.T.Twin.both c.copy_over.new.twin) (c.copy_over.ensures.fine_source (λ is. absurd cc)) c.copy_over.ensures.line
+
+pub returns-in-Err-Source-clause-went : goal.returns-in-Err-Source-clause-went
+returns-in-Err-Source-clause-went g c = λ none. absurd (none refl)
+
+pub returns-in-Err-Memory-clause-went : goal.returns-in-Err-Memory-clause-went
+returns-in-Err-Memory-clause-went g c = λ none. copying_fine c.in-Some.source c.args.self.now c.in-Some.ensures.some.0 c.in-Some.ensures.some.1 (g.T.Twin.both c.args.twin.now) (g.T.Twin.both c.copy_over.new.twin) (c.copy_over.ensures.fine_source (λ is. absurd cc)) c.copy_over.ensures.line

@@ -5,14 +5,14 @@ use Rattle.device_acts.specs.ErrorsLaws.{other_error}
 use Rattle.kd_device.specs.declared.half.Half.{Half}
 use Rattle.kd_device.specs.declared.half.Half.TheVariants.{First, Second}
 use Rattle.kdcfile_copies.specs.declared.answer.LoadedCopy.{LoadedCopy}
-use Rattle.kdcfile_double.specs.declared.error.TwinOpenError.TheVariants as to
+use Rattle.device_acts.specs.declared.warm_start.error.OpenError.TheVariants as opening
 use Rattle.kdcfile_double.specs.Twice.{FineTwice, Twice, IsOpen, IsTwice}
 use Rattle.kdcfile_double.specs.Choice.{KeepsNoneTwice, KeepsOthersTwice}
 use Rattle.kdcfile_double.specs.Committing.{IsKeptAt}
 use Rattle.kdcfile_double.specs.CommitTwoLaws.{first_is_kept, line_with, second_is_kept, spared_open, spared_with}
-use Rattle.kdcfile_double.specs.OpenedLaws.{handed_on}
+use Rattle.kd_base.specs.ToolsLaws.{error_same}
 use Rattle.kdcfile_double.specs.OpeningLaws.{fits_twice}
-use Rattle.kdcfile_double.specs.SingleLaws.{KeepsSome, first_keeps_some, second_keeps_some}
+use Rattle.kdcfile_double.specs.OneHalfLaws.{KeepsSome, first_keeps_some, second_keeps_some}
 use Rattle.kdcfile_double.specs.ReopenLaws.{AreAgain, IsReopened, err_failed, failed_only, read_failed, read_is_twice, read_suits, read_texts, reopened}
 use Rattle.kdcfile_double.proofs.store.TwinStore.reopen.Given.{Over}
 use Rattle.kdcfile_double.proofs.store.TwinStore.reopen.Goals.{In_ok-store}
@@ -39,16 +39,13 @@ again-requires g c =
     subst (λ (u : Twice). IsTwice (record { first = c.in_ok-found.found.0; second = c.in_ok-found.found.1; mended = u.mended; lost = c.reload_both.new.lost })) (sym c.self.view_is) (read_is_twice c.args.self (subst IsTwice c.self.view_is c.self.invariant) c.in_ok-found.found.0 c.in_ok-found.found.1 c.reload_both.new.lost (g.T.Twin.both c.args.twin.now) (g.T.Twin.both c.reload_both.new.twin) (seen_again c.self.view_is c.in_ok-found.ensures.again))
 
 pub returns-in_err-found-clause-refused : goal.returns-in_err-found-clause-refused
-returns-in_err-found-clause-refused g c = λ t keeps suits is told. c.in_err-found.ensures.refused (handed_on _ _ c.from_residual.result c.in_err-found.field-0.0 to.NotKdcfile c.from_residual.ensures.1 is) told
+returns-in_err-found-clause-refused g c = λ t keeps suits is told. c.in_err-found.ensures.refused (error_same _ _ c.from_residual.result c.in_err-found.field-0.0 opening.NotKdcfile c.from_residual.ensures.1 is) told
 
 pub returns-in_err-found-clause-other : goal.returns-in_err-found-clause-other
-returns-in_err-found-clause-other g c = λ t stored keeps is told. c.in_err-found.ensures.told.0 stored (handed_on _ _ c.from_residual.result c.in_err-found.field-0.0 (to.OtherGeneration stored) c.from_residual.ensures.1 is)
-
-pub returns-in_err-found-clause-spent : goal.returns-in_err-found-clause-spent
-returns-in_err-found-clause-spent g c = λ n is. c.in_err-found.ensures.told.1 n (handed_on _ _ c.from_residual.result c.in_err-found.field-0.0 (to.Spent n) c.from_residual.ensures.1 is)
+returns-in_err-found-clause-other g c = λ t stored keeps is told. c.in_err-found.ensures.other stored (error_same _ _ c.from_residual.result c.in_err-found.field-0.0 (opening.OtherGeneration stored) c.from_residual.ensures.1 is)
 
 pub returns-in_err-found-clause-failed : goal.returns-in_err-found-clause-failed
-returns-in_err-found-clause-failed g c = λ is half used. absurd (c.in_err-found.ensures.failed (handed_on _ _ c.from_residual.result c.in_err-found.field-0.0 to.Failed c.from_residual.ensures.1 is))
+returns-in_err-found-clause-failed g c = λ is half used. absurd (c.in_err-found.ensures.failed (error_same _ _ c.from_residual.result c.in_err-found.field-0.0 opening.Failed c.from_residual.ensures.1 is))
 
 pub returns-in_err-found-clause-still : goal.returns-in_err-found-clause-still
 returns-in_err-found-clause-still g c = λ told. let rests = c.reload_both.ensures.rests told in (rests.files, rests.leaves)
@@ -57,13 +54,10 @@ pub returns-in_err-found-clause-frame : goal.returns-in_err-found-clause-frame
 returns-in_err-found-clause-frame g c = c.reload_both.ensures.frame
 
 pub returns-in_err-store-clause-refused : goal.returns-in_err-store-clause-refused
-returns-in_err-store-clause-refused g c = λ t keeps suits is told. let h : to.NotKdcfile ≡ to.Failed = failed_only _ c.from_residual-in_err-store.result c.in_err-store.field-0.0 to.NotKdcfile c.from_residual-in_err-store.ensures.1 is (err_failed _ c.in_err-store.field-0.0 c.in_err-store.ensures.failed.0) in absurd cc
+returns-in_err-store-clause-refused g c = λ t keeps suits is told. let h : opening.NotKdcfile ≡ opening.Failed = failed_only _ c.from_residual-in_err-store.result c.in_err-store.field-0.0 opening.NotKdcfile c.from_residual-in_err-store.ensures.1 is (err_failed _ c.in_err-store.field-0.0 c.in_err-store.ensures.failed.0) in absurd cc
 
 pub returns-in_err-store-clause-other : goal.returns-in_err-store-clause-other
-returns-in_err-store-clause-other g c = λ t stored keeps is told. let h : to.OtherGeneration stored ≡ to.Failed = failed_only _ c.from_residual-in_err-store.result c.in_err-store.field-0.0 (to.OtherGeneration stored) c.from_residual-in_err-store.ensures.1 is (err_failed _ c.in_err-store.field-0.0 c.in_err-store.ensures.failed.0) in absurd cc
-
-pub returns-in_err-store-clause-spent : goal.returns-in_err-store-clause-spent
-returns-in_err-store-clause-spent g c = λ n is. let h : to.Spent n ≡ to.Failed = failed_only _ c.from_residual-in_err-store.result c.in_err-store.field-0.0 (to.Spent n) c.from_residual-in_err-store.ensures.1 is (err_failed _ c.in_err-store.field-0.0 c.in_err-store.ensures.failed.0) in absurd cc
+returns-in_err-store-clause-other g c = λ t stored keeps is told. let h : opening.OtherGeneration stored ≡ opening.Failed = failed_only _ c.from_residual-in_err-store.result c.in_err-store.field-0.0 (opening.OtherGeneration stored) c.from_residual-in_err-store.ensures.1 is (err_failed _ c.in_err-store.field-0.0 c.in_err-store.ensures.failed.0) in absurd cc
 
 pub returns-in_err-store-clause-failed : goal.returns-in_err-store-clause-failed
 returns-in_err-store-clause-failed g c = λ is.
@@ -110,7 +104,7 @@ returns-in_err-found-clause-went g c = λ none. record {
 }
 
 pub returns-in_err-store-clause-went : goal.returns-in_err-store-clause-went
-returns-in_err-store-clause-went g c = λ none. absurd (other_error _ _ c.from_residual-in_err-store.result c.in_err-store.field-0.0 to.Failed c.from_residual-in_err-store.ensures.1 none c.in_err-store.ensures.failed.0)
+returns-in_err-store-clause-went g c = λ none. absurd (other_error _ _ c.from_residual-in_err-store.result c.in_err-store.field-0.0 opening.Failed c.from_residual-in_err-store.ensures.1 none c.in_err-store.ensures.failed.0)
 
 pub returns-in_err-tables-clause-went : goal.returns-in_err-tables-clause-went
 returns-in_err-tables-clause-went g c = λ none. went_open g (goal.at.returns-in_err-tables-clause-went g c).In_ok-store
@@ -121,18 +115,15 @@ tables_for-requires g c = c.in_ok-store.ensures.is_open
 pub returns-in_err-tables-clause-refused : goal.returns-in_err-tables-clause-refused
 returns-in_err-tables-clause-refused g c = λ t keeps suits is told.
     let here = (goal.at.returns-in_err-tables-clause-refused g c).In_ok-store in
-    read_suits c.args.self (subst IsTwice c.self.view_is c.self.invariant) c.in_ok-found.found.0 c.in_ok-found.found.1 c.reload_both.new.lost (g.T.Twin.both c.args.twin.now) (g.T.Twin.both c.reload_both.new.twin) (seen_again c.self.view_is c.in_ok-found.ensures.again) (open_now g here) c.args.generation.now c.args.fingerprint.now t keeps suits (subst (λ (u : Twice). KeepsNoneTwice c.args.generation.now c.args.fingerprint.now u) (same g here) (c.in_err-tables.ensures.refused (handed_on _ _ c.from_residual-in_err-tables.result c.in_err-tables.field-0.0 to.NotKdcfile c.from_residual-in_err-tables.ensures.1 is)))
+    read_suits c.args.self (subst IsTwice c.self.view_is c.self.invariant) c.in_ok-found.found.0 c.in_ok-found.found.1 c.reload_both.new.lost (g.T.Twin.both c.args.twin.now) (g.T.Twin.both c.reload_both.new.twin) (seen_again c.self.view_is c.in_ok-found.ensures.again) (open_now g here) c.args.generation.now c.args.fingerprint.now t keeps suits (subst (λ (u : Twice). KeepsNoneTwice c.args.generation.now c.args.fingerprint.now u) (same g here) (c.in_err-tables.ensures.refused (error_same _ _ c.from_residual-in_err-tables.result c.in_err-tables.field-0.0 opening.NotKdcfile c.from_residual-in_err-tables.ensures.1 is)))
 
 pub returns-in_err-tables-clause-other : goal.returns-in_err-tables-clause-other
 returns-in_err-tables-clause-other g c = λ t stored keeps is told.
     let here = (goal.at.returns-in_err-tables-clause-other g c).In_ok-store in
-    read_texts c.args.self (subst IsTwice c.self.view_is c.self.invariant) c.in_ok-found.found.0 c.in_ok-found.found.1 c.reload_both.new.lost (g.T.Twin.both c.args.twin.now) (g.T.Twin.both c.reload_both.new.twin) (seen_again c.self.view_is c.in_ok-found.ensures.again) (open_now g here) c.args.generation.now c.args.fingerprint.now stored t keeps (subst (λ (u : Twice). KeepsOthersTwice stored c.args.fingerprint.now u) (same g here) (c.in_err-tables.ensures.other stored (handed_on _ _ c.from_residual-in_err-tables.result c.in_err-tables.field-0.0 (to.OtherGeneration stored) c.from_residual-in_err-tables.ensures.1 is)))
-
-pub returns-in_err-tables-clause-spent : goal.returns-in_err-tables-clause-spent
-returns-in_err-tables-clause-spent g c = λ n is. c.in_err-tables.ensures.spent n (handed_on _ _ c.from_residual-in_err-tables.result c.in_err-tables.field-0.0 (to.Spent n) c.from_residual-in_err-tables.ensures.1 is)
+    read_texts c.args.self (subst IsTwice c.self.view_is c.self.invariant) c.in_ok-found.found.0 c.in_ok-found.found.1 c.reload_both.new.lost (g.T.Twin.both c.args.twin.now) (g.T.Twin.both c.reload_both.new.twin) (seen_again c.self.view_is c.in_ok-found.ensures.again) (open_now g here) c.args.generation.now c.args.fingerprint.now stored t keeps (subst (λ (u : Twice). KeepsOthersTwice stored c.args.fingerprint.now u) (same g here) (c.in_err-tables.ensures.other stored (error_same _ _ c.from_residual-in_err-tables.result c.in_err-tables.field-0.0 (opening.OtherGeneration stored) c.from_residual-in_err-tables.ensures.1 is)))
 
 pub returns-in_err-tables-clause-failed : goal.returns-in_err-tables-clause-failed
-returns-in_err-tables-clause-failed g c = λ is half used. absurd (c.in_err-tables.ensures.failed (handed_on _ _ c.from_residual-in_err-tables.result c.in_err-tables.field-0.0 to.Failed c.from_residual-in_err-tables.ensures.1 is))
+returns-in_err-tables-clause-failed g c = λ is half used. absurd (c.in_err-tables.ensures.failed (error_same _ _ c.from_residual-in_err-tables.result c.in_err-tables.field-0.0 opening.Failed c.from_residual-in_err-tables.ensures.1 is))
 
 pub returns-in_err-tables-clause-still : goal.returns-in_err-tables-clause-still
 returns-in_err-tables-clause-still g c = λ told. let rests = c.reload_both.ensures.rests told in (rests.files, rests.leaves)
@@ -156,7 +147,6 @@ returns g c =
       kept = now_is.kept;
       refused = λ t keeps suits is told. absurd cc;
       other = λ t stored keeps is told. absurd cc;
-      spent = λ n is. absurd cc;
       still = λ told. let rests = c.reload_both.ensures.rests told in (rests.files, rests.leaves);
       failed = λ is half used. absurd cc;
       fine = now_is.fine;

@@ -11,9 +11,9 @@ use Rattle.kdcfile_double.proofs.store.TwinStore.tables_for.Goals as goal
 pub returns-clause-tables : goal.returns-clause-tables
 returns-clause-tables c =
     let x = c.in_ok-content.content in
-    let t = c.in-Some-2.tables in
+    let t = c.in-Some.tables in
     let print = c.fingerprint.result.now in
-    let are : AreTablesOf x t = subst (λ (o : Option Tables). IfSome o (λ u. AreTablesOf x u)) c.in-Some-2.is c.in_ok-tables.ensures.found in
-    let proper : AreProperTables t = subst (λ (o : Option Tables). IfSome o (λ u. AreProperTables u)) c.in-Some-2.is c.in_ok-tables.ensures.proper in
-    keeps_suited c.args.self.now c.in-Some.copy.now x c.in-Some.ensures.some c.in_ok-content.ensures t are proper c.args.generation.now c.args.fingerprint.now print c.limits.result c.fingerprint.ensures
+    let are : AreTablesOf x t = subst (λ (o : Option Tables). IfSome o (λ u. AreTablesOf x u)) c.in-Some.is c.in_ok-tables.ensures.found in
+    let proper : AreProperTables t = subst (λ (o : Option Tables). IfSome o (λ u. AreProperTables u)) c.in-Some.is c.in_ok-tables.ensures.proper in
+    keeps_suited c.args.self.now c.counted-copy.result.now x c.counted-copy.ensures c.in_ok-content.ensures t are proper c.args.generation.now c.args.fingerprint.now print c.limits.result c.fingerprint.ensures
     ((equal_is_same print c.args.fingerprint.now).0 (not-false _ (sym c.ne.ensures ∙ c.if-ne.false))) c.limits.ensures.blksize c.limits.ensures.pgpool (c.suits_twice.ensures.0 c.if-not-suits_twice.false)

@@ -1,4 +1,5 @@
-use Rattle.std.proofs.Common.{sym, ◌∙◌, inl}
+use Rattle.std.proofs.Common.{ap, sym, ◌∙◌, inl, inr}
+use Rattle.std.specs.Prelude.{Err}
 use Rattle.kd_device.specs.Twin.{disk_of}
 use Rattle.kdcfile_copies.specs.CopiesLaws.{some_none}
 use Rattle.kdcfile_double.specs.Twice.{identity_of, sequence_of, content_of}
@@ -44,3 +45,15 @@ returns-in-Err-Memory-clause-kept g c = λ told. (λ p is. absurd (some_none (sy
 
 pub returns-in-Err-Memory-clause-any_moment : goal.returns-in-Err-Memory-clause-any_moment
 returns-in-Err-Memory-clause-any_moment g c = λ told. rest_pairs c.args.half (g.T.Twin.both c.args.twin.now) (g.T.Twin.both c.load_half.new.twin) (g.T.Twin.leaves c.args.twin.now) (g.T.Twin.leaves c.load_half.new.twin) (c.requires.rest told) (λ x d out left. g.met.T.Twin.sent_now c.args.twin.now x d out told left) (c.load_half.ensures.any_moment told)
+
+pub returns-in-Some-clause-line : goal.returns-in-Some-clause-line
+returns-in-Some-clause-line g c = inl (c.in-Ok.ensures.fine (λ is. absurd cc)).line
+
+pub returns-in_default-clause-line : goal.returns-in_default-clause-line
+returns-in_default-clause-line g c = inl (c.in-Ok.ensures.fine (λ is. absurd cc)).line
+
+pub returns-in-Err-Failed-clause-line : goal.returns-in-Err-Failed-clause-line
+returns-in-Err-Failed-clause-line g c = inr (c.in-Err-Failed.ensures.failed (ap (λ z. Err z) c.in-Err-Failed.field-0-is))
+
+pub returns-in-Err-Memory-clause-line : goal.returns-in-Err-Memory-clause-line
+returns-in-Err-Memory-clause-line g c = inl (c.load_half.ensures.fine (λ is. absurd cc)).line

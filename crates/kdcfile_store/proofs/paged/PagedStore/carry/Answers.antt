@@ -8,7 +8,7 @@ use Rattle.kdcfile_store.proofs.paged.PagedStore.carry.Goals as goal
 
 pub commit_image-requires-clause-pages : goal.commit_image-requires-clause-pages
 commit_image-requires-clause-pages g c =
-    are_pages c.in_ok-whole.ensures c.self.inside.image (c.requires.blksize ∙ ap (λ (s : Paged). s.identity.blksize) (sym c.self.view_is)) c.as_slice.result.now c.as_slice.ensures.value
+    are_pages c.in_ok-whole.ensures c.self.inside.image (c.requires.blksize ∙ ap (λ (s : Paged). s.identity.blksize) (sym c.self.view_is))
 
 pub commit_image-requires-clause-apart : goal.commit_image-requires-clause-apart
 commit_image-requires-clause-apart g c = λ told.
@@ -16,7 +16,7 @@ commit_image-requires-clause-apart g c = λ told.
     let stands = subst (λ (s : Paged). HasFile s h) (sym c.self.view_is) (c.requires.kept told).bytes in
     let x = c.self.inside.filed.content in
     let l = layout_in c.self.inside.image.root c.self.inside.filed.table in
-    (x, l, apart c.in_ok-whole.ensures c.self.inside.image (c.requires.blksize ∙ ap (λ (s : Paged). s.identity.blksize) (sym c.self.view_is)) c.as_slice.result.now c.as_slice.ensures.value x l c.self.invariant.named h stands)
+    (x, l, apart c.in_ok-whole.ensures c.self.inside.image (c.requires.blksize ∙ ap (λ (s : Paged). s.identity.blksize) (sym c.self.view_is)) x l c.self.invariant.named h stands)
 
 pub commit_image-requires-clause-would_be : goal.commit_image-requires-clause-would_be
 commit_image-requires-clause-would_be g c = λ told.
@@ -25,7 +25,7 @@ commit_image-requires-clause-would_be g c = λ told.
     let w = c.in_ok-whole.whole in (
       c.args.content,
       layout_in w.root w.filed.table,
-      would_be c.in_ok-whole.ensures c.self.inside.image (c.requires.blksize ∙ ap (λ (s : Paged). s.identity.blksize) (sym c.self.view_is)) c.as_slice.result.now c.as_slice.ensures.value c.self.inside.filed.content
+      would_be c.in_ok-whole.ensures c.self.inside.image (c.requires.blksize ∙ ap (λ (s : Paged). s.identity.blksize) (sym c.self.view_is)) c.self.inside.filed.content
           (layout_in c.self.inside.image.root c.self.inside.filed.table) c.self.invariant.named h stands,
     )
 
@@ -38,7 +38,7 @@ returns-clause-kept g c = λ told.
     let stands = subst (λ (s : Paged). HasFile s h) (sym c.self.view_is) (c.requires.kept told).bytes in
     record {
       bytes =
-          now_stands c.in_ok-whole.ensures c.self.inside.image (c.requires.blksize ∙ ap (λ (s : Paged). s.identity.blksize) (sym c.self.view_is)) c.as_slice.result.now c.as_slice.ensures.value c.self.inside.filed.content
+          now_stands c.in_ok-whole.ensures c.self.inside.image (c.requires.blksize ∙ ap (λ (s : Paged). s.identity.blksize) (sym c.self.view_is)) c.self.inside.filed.content
           (layout_in c.self.inside.image.root c.self.inside.filed.table) c.self.invariant.named c.commit_image.new.image h (g.D.Device.state c.commit_image.new.device).holds c.in_ok-commit_image.ensures.image stands (c.in_ok-commit_image.ensures.stands told);
       at_rest = c.in_ok-commit_image.ensures.at_rest told;
     }
@@ -51,7 +51,7 @@ returns-in_err-commit_image-clause-any_moment g c = λ told.
     let ld = g.D.Device.leaves c.commit_image.new.device in
     let stands = subst (λ (s : Paged). HasFile s a.holds) (sym c.self.view_is) (c.requires.kept told).bytes in
     subst (λ (s : Paged). LeavesOnly a d la ld (Either s.identity s.content (identity_with c.args.limits.now c.args.fingerprint.now) c.args.content a.sent)) c.self.view_is
-    (leaves_carried c.in_ok-whole.ensures c.self.inside.image (c.requires.blksize ∙ ap (λ (s : Paged). s.identity.blksize) (sym c.self.view_is)) c.as_slice.result.now c.as_slice.ensures.value c.self.inside.filed.content
+    (leaves_carried c.in_ok-whole.ensures c.self.inside.image (c.requires.blksize ∙ ap (λ (s : Paged). s.identity.blksize) (sym c.self.view_is)) c.self.inside.filed.content
     (layout_in c.self.inside.image.root c.self.inside.filed.table) c.self.invariant.named a d la ld stands (c.commit_image.ensures.any_moment told))
 
 pub returns-clause-any_moment : goal.returns-clause-any_moment
@@ -62,5 +62,5 @@ returns-clause-any_moment g c = λ told.
     let ld = g.D.Device.leaves c.commit_image.new.device in
     let stands = subst (λ (s : Paged). HasFile s a.holds) (sym c.self.view_is) (c.requires.kept told).bytes in
     subst (λ (s : Paged). LeavesOnly a d la ld (Either s.identity s.content (identity_with c.args.limits.now c.args.fingerprint.now) c.args.content a.sent)) c.self.view_is
-    (leaves_carried c.in_ok-whole.ensures c.self.inside.image (c.requires.blksize ∙ ap (λ (s : Paged). s.identity.blksize) (sym c.self.view_is)) c.as_slice.result.now c.as_slice.ensures.value c.self.inside.filed.content
+    (leaves_carried c.in_ok-whole.ensures c.self.inside.image (c.requires.blksize ∙ ap (λ (s : Paged). s.identity.blksize) (sym c.self.view_is)) c.self.inside.filed.content
     (layout_in c.self.inside.image.root c.self.inside.filed.table) c.self.invariant.named a d la ld stands (c.commit_image.ensures.any_moment told))

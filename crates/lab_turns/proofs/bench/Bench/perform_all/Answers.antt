@@ -1,5 +1,5 @@
 use Rattle.std.proofs.Common.{arith}
-use Rattle.script_run.specs.ScriptsLaws.{script_more, script_names, script_over, script_start}
+use Rattle.monitor_core.specs.ScriptsLaws.{script_more, script_names, script_over, script_start}
 use Rattle.lab_turns.specs.RunningLaws.{told_goes}
 use Rattle.lab_turns.proofs.bench.Bench.perform_all.Goals as goal
 

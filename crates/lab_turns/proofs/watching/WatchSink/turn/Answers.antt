@@ -1,7 +1,7 @@
 use Rattle.std.proofs.Common.{ap}
 use Rattle.abstract_monitor.specs.Commands.{turned_step}
 use Rattle.abstract_monitor.specs.Turns.{Turned, turn_of}
-use Rattle.script_run.specs.KeepingLaws.{did_turn}
+use Rattle.monitor_core.specs.KeepingLaws.{did_turn}
 use Rattle.lab_turns.specs.RunningLaws.{watched_step}
 use Rattle.lab_turns.proofs.watching.WatchSink.turn.Goals as goal
 

@@ -12,5 +12,5 @@ returns-clause-took c =
     let exact = c.in_ok-next.ensures.exact in
     did_step c.args.core c.args.self.now (command_of app s c.args.command.now) c.in_ok-next.next _ c.in_ok-next.ensures.one.application exact.state c.in_ok-next.ensures.durable
     (entry_by (changes_among c.in_ok-next.acts) c.maker_for-by.result)
-    ((λ i. entry_by (changes_among (exact.acts i)) (c.maker_for-by.ensures i)) ∙ made_by app s c.args.command.now c.requires.single)
+    ((λ i. entry_by (changes_among (exact.acts i)) (c.maker_for-by.ensures i)) ∙ made_by app s c.args.command.now c.requires.core_command)
     c.in_ok-put_entry.ensures

@@ -1,4 +1,4 @@
-use Rattle.script_run.specs.ResultsLaws.{if_three}
+use Rattle.monitor_core.specs.ResultsLaws.{if_three}
 use Rattle.trail_run.proofs.Restarting.{did_restart}
 use Rattle.trail_run.proofs.steps.KeptSink.restart.Goals as goal
 

@@ -2,7 +2,7 @@ use Rattle.std.proofs.Common.{ap, ◌∙◌}
 use Rattle.std.specs.Option.{option_map}
 use Rattle.abstract_monitor.specs.Commands.{maker_of, turned_step}
 use Rattle.abstract_monitor.specs.Turns.{Turned, turn_of}
-use Rattle.script_run.specs.KeepingLaws.{did_turn}
+use Rattle.monitor_core.specs.KeepingLaws.{did_turn}
 use Rattle.trail_run.specs.Entries.{by_of, changes_among, entry_by}
 use Rattle.trail_run.specs.RunningLaws.{did_step}
 use Rattle.trail_run.proofs.steps.KeptSink.turn.Goals as goal

@@ -1,11 +1,12 @@
-use Rattle.std.proofs.Common.{Err, sym, subst}
+use Rattle.std.proofs.Common.{Err, refl, sym, subst}
 use Rattle.utm_cli.specs.Asking.{errand_for}
 use Rattle.utm_cli.specs.PartsTwo.{DoesTwo}
 use Rattle.utm_cli.specs.declared.errand.Task.{Task}
 use Rattle.utm_cli.specs.declared.errand.Task.TheVariants as task
-use Rattle.utm_cli.specs.declared.twin.error.TwinCallError.TheVariants.{Refused}
-use Rattle.utm_cli.specs.declared.twin.error.TwinRefusal.TheVariants.{Double}
+use Rattle.refusals.specs.declared.error.FileRefusal.TheVariants.{TwoCopies}
+use Rattle.utm_cli.specs.declared.error.CallError.TheVariants.{Refused}
 use Rattle.utm_cli.specs.declared.words.Word.TheVariants.{Update}
+use Rattle.utm_cli.proofs.twin.Answered.{none_failed}
 use Rattle.utm_cli.proofs.twin.Does.{not_looked_at, refused_does}
 use Rattle.utm_cli.proofs.twin.double.over_copies.Goals as goal
 
@@ -20,5 +21,5 @@ returns-in-Audit g c = subst (λ (t : Task). DoesTwo (errand_for c.args.work t) 
 
 pub returns-in-Update : goal.returns-in-Update
 returns-in-Update g c =
-    subst (λ (t : Task). DoesTwo (errand_for c.args.work t) c.args.base.now (Err (Refused Double)) (g.T.Twin.both c.args.twin.now) (g.T.Twin.both c.args.twin.now) (g.T.Twin.leaves c.args.twin.now) (g.T.Twin.leaves c.args.twin.now)) (sym c.in-Update.is)
-    (refused_does (errand_for c.args.work task.Update) c.args.base.now _ _ _ _ (not_looked_at g.T.Twin.both g.T.Twin.leaves g.met.T.Twin.sent_now g.met.T.Twin.earlier Update c.args.base.now c.args.twin.now) Double tt)
+    subst (λ (t : Task). DoesTwo (errand_for c.args.work t) c.args.base.now (Err (Refused TwoCopies)) (g.T.Twin.both c.args.twin.now) (g.T.Twin.both c.args.twin.now) (g.T.Twin.leaves c.args.twin.now) (g.T.Twin.leaves c.args.twin.now)) (sym c.in-Update.is)
+    (refused_does (errand_for c.args.work task.Update) c.args.base.now _ _ _ _ (not_looked_at g.T.Twin.both g.T.Twin.leaves g.met.T.Twin.sent_now g.met.T.Twin.earlier Update c.args.base.now c.args.twin.now) TwoCopies refl (none_failed (g.T.Twin.both c.args.twin.now)))

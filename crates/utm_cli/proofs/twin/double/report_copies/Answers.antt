@@ -1,5 +1,6 @@
 use Rattle.std.proofs.Common.{refl, ◌∙◌}
 use Rattle.std.proofs.lemmas.Result.{on_ok_weaker}
+use Rattle.kdcfile_double.specs.CommitTwoLaws.{fine_still}
 use Rattle.utm_cli.specs.Asking.{gen_errand}
 use Rattle.utm_cli.proofs.twin.Keeps.{nothing_within}
 use Rattle.utm_cli.proofs.twin.Scripts.{report_ran, report_within}
@@ -16,3 +17,6 @@ returns-clause-done g c =
 
 pub returns-in_err-acts-clause-any : goal.returns-in_err-acts-clause-any
 returns-in_err-acts-clause-any g c = λ t keeps. nothing_within _ c.args.store t _ (g.T.Twin.both c.args.twin.now) (g.T.Twin.leaves c.args.twin.now)
+
+pub returns-in_err-acts-clause-fine : goal.returns-in_err-acts-clause-fine
+returns-in_err-acts-clause-fine g c = λ none. fine_still c.args.store (g.T.Twin.both c.args.twin.now) c.requires.is_open

@@ -1,15 +1,17 @@
 use Rattle.std.proofs.Common.{refl}
 use Rattle.std.proofs.lemmas.Result.{on_ok_weaker}
+use Rattle.kdcfile_double.specs.CommitTwoLaws.{fine_still}
 use Rattle.utm_cli.specs.Asking.{run_errand}
+use Rattle.utm_cli.proofs.Doing.{parts_script}
 use Rattle.utm_cli.proofs.twin.Keeps.{nothing_within}
-use Rattle.utm_cli.proofs.twin.Scripts.{core_runs, parts_made_for, parts_ran, parts_script, parts_turns, parts_within}
+use Rattle.utm_cli.proofs.twin.Scripts.{core_runs, parts_made_for, parts_ran, parts_turns, parts_within}
 use Rattle.utm_cli.proofs.twin.double.script_copies.Goals as goal
 
 pub run_twice-requires-clause-running : goal.run_twice-requires-clause-running
 run_twice-requires-clause-running g c = core_runs (run_errand c.args.work c.args.commands.now) c.args.tables c.in_ok-core.core c.in_ok-core.ensures.application c.in_ok-core.ensures.state c.in_ok-core.ensures.steps c.requires.suits c.requires.can c.in_ok-core.ensures.facts c.in_ok-core.ensures.limits c.args.store c.requires.tables
 
 pub run_twice-requires-clause-names : goal.run_twice-requires-clause-names
-run_twice-requires-clause-names g c = parts_script (run_errand c.args.work c.args.commands.now) c.args.tables c.in_ok-core.core c.in_ok-core.ensures.application c.in_ok-core.ensures.state c.in_ok-core.ensures.steps c.requires.suits c.as_slice.result.now c.as_slice.ensures c.requires.can
+run_twice-requires-clause-names g c = parts_script (run_errand c.args.work c.args.commands.now) c.args.tables c.in_ok-core.core c.in_ok-core.ensures.application c.in_ok-core.ensures.state c.in_ok-core.ensures.steps c.as_slice.result.now c.as_slice.ensures c.requires.can
 
 pub run_twice-requires-clause-steps : goal.run_twice-requires-clause-steps
 run_twice-requires-clause-steps g c = parts_turns (run_errand c.args.work c.args.commands.now) c.args.tables c.in_ok-core.core c.in_ok-core.ensures.application c.in_ok-core.ensures.state c.in_ok-core.ensures.steps c.requires.suits c.as_slice.result.now c.as_slice.ensures c.requires.can
@@ -19,6 +21,9 @@ run_twice-requires-clause-identity g c = parts_made_for (run_errand c.args.work 
 
 pub returns-in_err-core-clause-any : goal.returns-in_err-core-clause-any
 returns-in_err-core-clause-any g c = nothing_within _ c.args.store c.args.tables _ (g.T.Twin.both c.args.twin.now) (g.T.Twin.leaves c.args.twin.now)
+
+pub returns-in_err-core-clause-fine : goal.returns-in_err-core-clause-fine
+returns-in_err-core-clause-fine g c = λ none. fine_still c.args.store (g.T.Twin.both c.args.twin.now) c.requires.is_open
 
 pub returns-clause-any : goal.returns-clause-any
 returns-clause-any g c =

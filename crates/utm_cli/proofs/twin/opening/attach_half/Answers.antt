@@ -10,7 +10,7 @@ returns-in_err-reserve-clause-rests g c = λ told.
     quiet_rests First (g.T.Twin.both c.args.twin.now) (g.T.Twin.both c.reserve.new.self) (g.T.Twin.leaves c.args.twin.now) (g.T.Twin.leaves c.reserve.new.self) (c.reserve.ensures.content told First) (c.reserve.ensures.disk Second)
 
 pub returns-in_err-reserve-clause-fine : goal.returns-in_err-reserve-clause-fine
-returns-in_err-reserve-clause-fine g c = λ none. reserved_none_rose (g.T.Twin.both c.args.twin.now) (g.T.Twin.both c.reserve.new.self) c.reserve.ensures.disk
+returns-in_err-reserve-clause-fine g c = λ none. reserved_none_rose (g.T.Twin.both c.args.twin.now) (g.T.Twin.both c.reserve.new.self) c.reserve.ensures.disk c.reserve.ensures.line
 
 pub returns-in_err-reserve-clause-frame : goal.returns-in_err-reserve-clause-frame
 returns-in_err-reserve-clause-frame g c = reserved_frame (g.T.Twin.both c.args.twin.now) (g.T.Twin.both c.reserve.new.self) (c.reserve.ensures.frame First) (c.reserve.ensures.disk Second)

@@ -1,11 +1,17 @@
 use Rattle.std.proofs.Common.{List, ℕ, refl, sym, subst, inl, ◌∙◌}
 use Rattle.std.specs.Prelude.{IsTrue}
+use Rattle.kd_device.specs.declared.error.DeviceError.TheVariants as device
+use Rattle.device_acts.specs.ErrorsLaws.{no_error}
+use Rattle.kdcfile_double.specs.Causes.{of_device}
+use Rattle.kdcfile_double.specs.declared.error.TwinOpenError.TheVariants as to
 use Rattle.kdcfile_double.specs.MakingLaws.{none_rose_then, told_of}
 use Rattle.kdcfile_double.specs.Opening.{StartsFromTwo, identity_twice}
 use Rattle.utm_cli.specs.TwoAnswersLaws.{started_two_once}
 use Rattle.utm_cli.specs.BehindLaws.{behind_is_mended, mended_was_behind, used_or_lost}
+use Rattle.utm_cli.proofs.HandedOn.{no_cause}
 use Rattle.utm_cli.proofs.twin.opening.Attached.{may_attach_then}
 use Rattle.utm_cli.proofs.twin.opening.Opened.{attached_leaves, failed_after, failed_of, keeps_after, mended_leaves, not_empty, opened_before, opened_leaves, opened_stay, same_files, started_stay}
+use Rattle.utm_cli.proofs.twin.opening.Opened.{fine_of, mended_fine}
 use Rattle.utm_cli.proofs.twin.opening.open_copies.Goals as goal
 
 pub returns-in_err-attach_both-clause-any_moment : goal.returns-in_err-attach_both-clause-any_moment
@@ -82,6 +88,31 @@ returns-in_err-mend-clause-failed g c = λ is.
     let e = g.T.Twin.both c.open.new.twin in
     failed_after a e (g.T.Twin.both c.mend.new.twin) c.in_ok-store.store (none_rose_then a b e (c.in_ok-attach_both.ensures.fine (λ failed. absurd cc)) (c.in_ok-store.ensures.fine (λ failed. absurd cc)))
     (c.in_ok-store.ensures.is_open (inl refl)) (c.in_err-mend.ensures.failed (failed_of _ _ c.from_residual-in_err-mend.result c.in_err-mend.field-0.0 c.from_residual-in_err-mend.ensures.1 is))
+
+-- ---- calls that did not fail as a whole
+
+pub returns-in_err-attach_both-clause-went : goal.returns-in_err-attach_both-clause-went
+returns-in_err-attach_both-clause-went g c = λ none. fine_of _ _ (c.in_err-attach_both.ensures.fine (no_cause _ of_device c.in_err-attach_both.field-0.0 device.Failed c.from_residual.result c.from_residual.ensures.1 none))
+
+pub returns-in_err-store-clause-went : goal.returns-in_err-store-clause-went
+returns-in_err-store-clause-went g c = λ none.
+    fine_of _ _ (none_rose_then (g.T.Twin.both c.args.twin.now) (g.T.Twin.both c.attach_both.new.twin) (g.T.Twin.both c.open.new.twin) (c.in_ok-attach_both.ensures.fine (no_error _ _)) (c.in_err-store.ensures.fine (no_cause _ (λ x. x) c.in_err-store.field-0.0 to.Failed c.from_residual-in_err-store.result c.from_residual-in_err-store.ensures.1 none)))
+
+pub returns-in_err-mend-clause-went : goal.returns-in_err-mend-clause-went
+returns-in_err-mend-clause-went g c = λ none.
+    let a = g.T.Twin.both c.args.twin.now in
+    let e = g.T.Twin.both c.open.new.twin in
+    mended_fine a e (g.T.Twin.both c.mend.new.twin) c.in_ok-store.store (none_rose_then a (g.T.Twin.both c.attach_both.new.twin) e (c.in_ok-attach_both.ensures.fine (no_error _ _)) (c.in_ok-store.ensures.fine (no_error _ _)))
+    (c.in_ok-store.ensures.is_open (inl refl)) (c.in_err-mend.ensures.went (no_cause _ of_device c.in_err-mend.field-0.0 device.Failed c.from_residual-in_err-mend.result c.from_residual-in_err-mend.ensures.1 none))
+
+pub returns-clause-went : goal.returns-clause-went
+returns-clause-went g c = λ none.
+    let a = g.T.Twin.both c.args.twin.now in
+    let e = g.T.Twin.both c.open.new.twin in
+    mended_fine a e (g.T.Twin.both c.mend.new.twin) c.in_ok-store.store (none_rose_then a (g.T.Twin.both c.attach_both.new.twin) e (c.in_ok-attach_both.ensures.fine (no_error _ _)) (c.in_ok-store.ensures.fine (no_error _ _)))
+    (c.in_ok-store.ensures.is_open (inl refl)) (c.in_ok-mend.ensures.went (no_error _ _))
+
+-- ---- both files are opened
 
 pub returns-clause-keeps : goal.returns-clause-keeps
 returns-clause-keeps g c =

@@ -88,6 +88,7 @@ returns-in-Ok-Two-default-Over g c =
             accepted = c.double.ensures.accepted;
             device = c.double.ensures.device;
             device_told = c.double.ensures.device_told;
+            fine = c.double.ensures.fine;
             left = c.double.ensures.left;
             any_moment = c.double.ensures.any_moment;
             bytes = c.double.ensures.bytes;

@@ -1,5 +1,5 @@
 use Rattle.std.proofs.Common.{ap, ◌∙◌}
-use Rattle.step_scheduler.specs.Schedule.{released}
+use Rattle.service_ends.specs.Schedule.{released}
 use Rattle.service_ends.specs.KeptLaws.{withdrawn_indexed, withdrawn_state}
 use Rattle.service_ends.proofs.core_state.parts.MonitorParts.withdraw.Goals as goal
 

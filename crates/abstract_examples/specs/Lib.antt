@@ -1,4 +1,0 @@
-pub mod SampleUnits
-pub mod Sample
-pub mod Words
-pub mod Rows

@@ -1,0 +1,4 @@
+use Rattle.kd_device.proofs.lent.SameTwinTwin.attach.Goals as goal
+
+pub returns-clause-content : goal.returns-clause-content
+returns-clause-content g c = rw (← c.self.view_is) c.attach.ensures.content

@@ -1,5 +1,0 @@
-use Rattle.script_run.proofs.Rotating.{Rotation}
-use Rattle.script_run.proofs.turns.run_turns.Given as goal
-
-abbrev pub invariant-loop-turn : goal.invariant-loop-turn
-invariant-loop-turn g l = Rotation g.S.Sink.took l.fn.sink l.fn.core l.turns l.sink l.core l.turn l.task l.unmoved

@@ -1,5 +1,0 @@
-use Rattle.step_scheduler.proofs.Least.{same_least}
-use Rattle.step_scheduler.proofs.marks.Marks.first_of_service.Goals as goal
-
-pub returns : goal.returns
-returns c arrivals h = same_least _ _ (h.by_service c.args.id.now) _ c.first_of.ensures

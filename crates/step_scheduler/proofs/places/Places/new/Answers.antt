@@ -1,5 +1,0 @@
-use Rattle.step_scheduler.proofs.Counts.{none_counted}
-use Rattle.step_scheduler.proofs.places.Places.new.Goals as goal
-
-pub invariant_of-result : goal.invariant_of-result
-invariant_of-result c = rw (c.in_ok-all_free.ensures, c.in_ok-no_counts.ensures) (none_counted c.args.tasks)

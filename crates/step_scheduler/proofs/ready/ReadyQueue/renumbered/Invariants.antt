@@ -1,7 +1,0 @@
-use Rattle.std.proofs.Common.{◌≡◌, ◌++◌, length}
-use Rattle.std.specs.Map.{values_of}
-use Rattle.step_scheduler.specs.Arrivals.{IsAfter}
-use Rattle.step_scheduler.proofs.ready.ReadyQueue.renumbered.Given as goal
-
-abbrev pub invariant-loop-entry : goal.invariant-loop-entry
-invariant-loop-entry l = record { same : values_of l.fresh ++ values_of l.entry-iterator ≡ values_of l.self; next : IsAfter (length l.fresh) l.fresh }

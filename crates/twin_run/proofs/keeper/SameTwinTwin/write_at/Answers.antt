@@ -1,4 +1,0 @@
-use Rattle.twin_run.proofs.keeper.SameTwinTwin.write_at.Goals as goal
-
-pub returns-clause-content : goal.returns-clause-content
-returns-clause-content g c = rw (← c.self.view_is) c.write_at.ensures.content

@@ -1,7 +1,0 @@
-use Rattle.std.proofs.Common.{◌≡◌, ◌-◌, None}
-use Rattle.kd_base.specs.Tools.{onto}
-use Rattle.whole_store.specs.Reading.{records_of}
-use Rattle.whole_store.proofs.record.records_of.Given as goal
-
-abbrev pub invariant-loop : goal.invariant-loop
-invariant-loop l = onto l.records (records_of l.previous (l.fn.count - l.counter) l.left) ≡ records_of None l.fn.count l.fn.image
