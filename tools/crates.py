@@ -21,6 +21,7 @@ Program = namedtuple("Program", "crate words status")
 PROGRAMS = {
     "utm": Program("utm", ["run", "nothing"], 6),
     "lab": Program("kdcs_lab", ["trace", "nothing"], 6),
+    "live": Program("live", ["nothing"], 6),
     "test": Program("utm_cases", [], 0),
 }
 

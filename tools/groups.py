@@ -38,6 +38,7 @@ def made(kind):
 # By their names the commands of the groups, the longest first.
 GROUPS = {
     "made-runs": made("runs"),
+    "terminals": checks("terminals"),
     "cases": checks("cases"),
     "made-disks": made("disks"),
     "program": checks("program"),
@@ -53,6 +54,7 @@ GROUPS = {
     "launcher": checks("launcher"),
     "documents": checks("documents"),
     "faults": checks("faults"),
+    "live": checks("live"),
 }
 
 

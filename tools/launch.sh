@@ -66,8 +66,8 @@ becomes() {
     shift
     if [ "$builds_only" = yes ]; then
         [ $# = 0 ] || refuse '--build runs nothing, so no other word comes behind it'
-        builds utm:utm lab:kdcs_lab || exit
-        echo "$name: utm and lab are built" >&2
+        builds utm:utm lab:kdcs_lab live:live || exit
+        echo "$name: utm, lab and live are built" >&2
         exit 0
     fi
     if is_stale "$crate"; then

@@ -4,7 +4,7 @@
     python3 tools/laws_apart.py     says what is where it should not be; the status is 1 then
 
 A file whose name does not end in Laws has definitions alone. A file whose name does, and that has a lemma, has no
-definition that docs/TRUSTED.md lists. So whoever reads what `utm_twin` promises passes over no lemma.
+definition that `tools/trusted.py --list` prints. So whoever reads what `utm_twin` promises passes over no lemma.
 """
 
 import sys

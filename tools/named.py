@@ -7,14 +7,19 @@ Looked at are README.md and docs/*.md:
 - a path is that of a file, from the top, from crates/, from a crate or from docs/; a file that is named without its
   folder is there under this name, in docs/MODEL.md among the definitions of abstract_monitor;
 - a name of several words, as `first_due` or `Core::turn`, is a crate, a file, an edit, or a word of the sources;
-- the list of crates in docs/ARCHITECTURE.md: the entry of each crate names its public modules, and no others;
-- `WORD in FILE` of docs/RULES.md: the file has the word. `CLAUSE of CALL` in a lower table: the contract of the call
-  has the clause, in the file of the code of that rule;
+- the tables of crates in docs/ARCHITECTURE.md: behind each crate are its public modules, and no others;
+- `WORD in FILE` of docs/ARCHITECTURE.md: the file has the word;
+- a row of docs/RULES.md: it leads to a page; in `WORD in FILE` the file has the word; in `CLAUSE of CALL` the contract
+  of the call has the clause, in the file of the code of that rule; and the proof of that call is where it is said to be;
+- a row of docs/changing.md with a file of crates/ and a word in quotes: the file has the word;
+- the table of docs/edits.md: it has each must-fail edit, with the crate or module that the edit is of;
 - a name after that of a crate or of a public module, as kdcfile_images `create`, is a word of this one; one after a file
   of definitions, as `Turns.antt`, `turn_of`, a word of that file;
-- the clauses of docs/PROVED.md: the crate or the module of the section has the call, and the call's contract the clause;
-  those at its beginning, and those in brackets in README.md, are clauses of `utm` or `utm_twin`. So it is in its tables
-  of answers.
+- the clauses of docs/PROVED.md are those of `utm` and of `utm_twin`, with the parts of `laws`, each in its section, and all
+  of them; the calls of the laboratory have the clauses behind them; and so has each call in the last column of the drawing;
+- the laws in the tables of docs/PROVED.md and docs/MODEL.md are those of the sources, all of them: functions without
+  arguments and results;
+- README.md has at most 150 lines.
 
 What is a word of a public module is none of the crate that the module is in.
 """
@@ -36,18 +41,22 @@ def texts_of(pattern):
 CODE = texts_of("*/src/**/*.rt")
 HOME = {path: home_of(path) for path in CODE}
 SPECS = texts_of("*/specs/*.antt")
+PROOFS = texts_of("*/proofs/**/*.antt")
 OTHER_FILES = [it for pattern in ("*", "tools/*", "docs/*", "crates/*/data/*") for it in TOP.glob(pattern)]
-FILES = {it.name for it in (*OTHER_FILES, *CODE, *SPECS)}
+FILES = {it.name for it in (*OTHER_FILES, *CODE, *SPECS, *PROOFS)}
 WORDS = set(re.findall(r"[\w-]+", " ".join([*CODE.values(), *SPECS.values()])))
+# Pages for who changes the sources name words of proofs too.
+PAGES_OF_PROOFS = ("changing.md", "style.md")
+PROOF_WORDS = set(re.findall(r"[\w-]+", " ".join(PROOFS.values())))
 PATH = re.compile(r"[\w./-]*\w\.(?:antt|rt|py|cases)\b|\bcrates/\w+\b|\.ci/\w+")
 QUOTED = re.compile(r"`([^`]+)`")
-EDITS = {it.stem for it in (TOP / "crates").glob("*/must-fail/*.edit")}
+EDITS = {it.stem: it for it in (TOP / "crates").glob("*/must-fail/*.edit")}
 KIT = {"start_lib"}
+RULE = ["Rule", "Definition", "Code", "Proof", "Case"]
 
 
 def pages():
-    """The documents, but for the one that a script makes."""
-    return [TOP / "README.md", *sorted(it for it in (TOP / "docs").glob("*.md") if it.name != "TRUSTED.md")]
+    return [TOP / "README.md", *sorted((TOP / "docs").glob("*.md"))]
 
 
 def prose_of(text):
@@ -84,11 +93,6 @@ def contracts(name, home, file=None):
     return found
 
 
-def top_contracts():
-    """The clauses of the two top calls, over one disk and over two."""
-    return contracts("utm", "utm_cli") + contracts("utm_twin", "utm_cli")
-
-
 def has_word(home, word):
     return any(HOME[path] == home and re.search(rf"\b{re.escape(word)}\b", text) for path, text in CODE.items())
 
@@ -120,57 +124,93 @@ def page_faults(page):
     for path in sorted({it.rstrip(".") for it in PATH.findall(text)}):
         if page.name == "MODEL.md" and path.endswith(".antt") and "/" not in path:
             path = f"abstract_monitor/specs/{path}"
-        if not is_path(path) and not re.search(r"\bNAME\b|^X", path):
+        if not is_path(path) and not re.search(r"\b(?:NAME|FILE|FUNCTION)\b|^X", path):
             yield f"no file {path}"
     for word in sorted(names_of(text)):
-        if not is_name(word):
+        if not is_name(word) and not (page.name in PAGES_OF_PROOFS and word in PROOF_WORDS):
             yield f"no name {word}"
     for home, word in re.findall(r"\b([a-z_]+)\s+`([\w:]+)`", text):
         if home in HOMES and not is_name(f"{home}::{word.split('::')[-1]}"):
             yield f"no {word} in {home}"
-    for file, word in re.findall(r"`(\w+\.antt)`,\s+`(\w+)`", text):
+    pairs = re.findall(r"`(\w+\.antt)`,\s+`(\w+)`", text)
+    if page.name == "MODEL.md":
+        pairs += [(file, word) for word, file in re.findall(r"`(\w+)` in (\w+\.antt)", text)]
+    for file, word in pairs:
         if not re.search(rf"\b{word}\b", SPECS.get(Path(f"abstract_monitor/specs/{file}"), "")):
             yield f"no {word} in {file}"
 
 
-def rows_of(section, kind):
-    """The rows of the tables of this kind, 'Definition' or 'Clause': each the lines of one rule."""
-    rows, within = [], False
-    for line in section.split("\n"):
-        cells = [it.strip() for it in line.strip("|").split("|")]
-        if not line.startswith("|"):
-            within = False
-        elif not within:
-            within = len(cells) > 1 and cells[1].startswith(kind)
-        elif set(line) <= set("|-"):
-            continue
-        elif cells[0] or not rows:
-            rows.append(cells)
-        else:
-            rows[-1] = [" ".join([a, b]) for a, b in zip(rows[-1], cells)]
-    return rows
+def rows_of(section):
+    """The rows of the tables of rules: each the cells of one rule, which are as many as RULE has."""
+    lines = [it for it in section.split("\n") if it.startswith("|") and not set(it) <= set("|-")]
+    rows = [[it.strip() for it in line.strip("|").split("|")] for line in lines]
+    return [it for it in rows if it != RULE]
 
 
 def pairs_of(text):
     return re.findall(r"`([\w-]+)` in +([\w/]+\.(?:antt|rt))", text)
 
 
-def rule_faults(text):
+def pair_faults(text):
     for word, file in pairs_of(text.replace("\n", " ")):
         path = Path(file if "/" in file else f"abstract_monitor/specs/{file}")
         if not re.search(rf"(?<![\w-]){re.escape(word)}(?![\w-])", CODE.get(path, SPECS.get(path, ""))):
             yield f"no {word} in {path}"
+
+
+def rule_faults(text):
+    yield from pair_faults(text)
     for section in re.split(r"(?m)^## ", text)[1:]:
         named = re.findall(r"\w+/src/[\w/]+\.rt", section)
-        upper, lower = rows_of(section, "Definition"), rows_of(section, "Clause")
-        if len(upper) != len(lower):
-            yield f"{section.split(chr(10))[0]}: {len(upper)} rules above, {len(lower)} below"
-        for above, below in zip(upper, lower):
-            files = [file for _, file in pairs_of(" ".join(above + below)) if file.endswith(".rt")] or named
-            for clauses, call in clauses_of_rule(below[1]):
+        for row in rows_of(section):
+            if len(row) != len(RULE):
+                yield f"{row[0]}: {len(row)} cells"
+                continue
+            rule, definition, code, proof, _ = row
+            if not pairs_of(definition):
+                yield f"{rule}: no definition"
+            if not re.match(r"\[[^]]+\]\([\w.#-]+\)", rule):
+                yield f"{rule}: no link to the plain words"
+            files = [file for _, file in pairs_of(code)] or named
+            for clauses, call in clauses_of_rule(code):
                 found = contracts_in(call, files) or contracts_in(call, named)
                 found = found or [it for file in files for it in contracts(call, home_of(file))]
-                yield from clause_faults(below[0], call, clauses, found)
+                yield from clause_faults(rule, call, clauses, found)
+            calls = [call for _, call in clauses_of_rule(code.split("; ")[-1])]
+            yield from proof_faults(rule, proof, calls, files, named)
+
+
+def proof_faults(rule, proof, calls, files, named):
+    """What is wrong with the place of a proof: it is empty where the calls have none, `beside` where it is at their own
+    place, or the file of lemmas that such a file takes."""
+    beside = [it for call in calls for it in proofs_of(call, files, named)]
+    if bool(proof) != bool(beside):
+        yield f"{rule}: {'no proof is named' if beside else 'the prover needs no proof'}"
+    for name in proof.split(", ") if proof not in ("", "beside") else []:
+        crates = {it.relative_to(TOP / "crates").parts[0] for it in beside}
+        taken = [crate for crate in crates if (TOP / "crates" / crate / name).is_file()]
+        words = [f"Rattle.{crate}.{name.removesuffix('.antt').replace('/', '.')}." for crate in taken]
+        if not any(word in it.read_text(encoding="utf-8") for word in words for it in beside):
+            yield f"{rule}: its proof takes no {name}"
+
+
+def proofs_of(call, files, named):
+    """The proofs that stand at the place of a call: it is in one of these files, else in one of the named ones, else in
+    one of the same crate or module."""
+    homes = {home_of(it) for it in files}
+    others = [str(path) for path in CODE if HOME[path] in homes]
+    has_call = re.compile(rf"\bfn {call}\b")
+    for some in (files, named, others):
+        found = [Path(it) for it in some if has_call.search(CODE.get(Path(it), ""))]
+        if found:
+            return [it for file in found for it in proofs_at(file, call)]
+    return []
+
+
+def proofs_at(file, call):
+    crate, _, *place = file.with_suffix("").parts
+    folder = TOP / "crates" / crate / "proofs" / Path(*([] if place == ["lib"] else place))
+    return [it for name in ("Answers", "Invariants") for it in folder.glob(f"**/{call}/{name}.antt")]
 
 
 def contracts_in(call, files):
@@ -196,66 +236,103 @@ def clause_faults(where, call, clauses, found):
 
 
 def architecture_faults(text):
-    """The list of crates: each entry has the public modules of its crate."""
+    """The tables of crates: behind the row of each crate are those of its public modules."""
     section = text[text.index("## The crates") : text.index("## The path of the data")]
-    entries = re.split(r"(?m)^- \*\*(\w+)\*\* \(uses", section)[1:]
-    for crate, entry in zip(entries[::2], entries[1::2]):
+    rows = re.split(r"(?m)^\| \*\*(\w+)\*\* \|", section)[1:]
+    for crate, behind in zip(rows[::2], rows[1::2]):
         modules = {it for it in HOMES if HOMES[it] == crate and it != crate}
-        for name in sorted(modules ^ set(re.findall(r"(?m)^  - \*\*(\w+)\*\*:", entry))):
-            yield f"{crate}: the module {name} {'has no entry' if name in modules else 'is none of it'}"
+        for name in sorted(modules ^ set(re.findall(r"(?m)^\| ↳ (\w+) \| \S", behind))):
+            yield f"{crate}: the module {name} {'has no row' if name in modules else 'is none of it'}"
+
+
+def change_faults(text):
+    """The rows of a page that name the places of a change: a file, and a word of it."""
+    for file, word in re.findall(r"(?m)^\| crates/(\S+\.(?:rt|antt)) \|[^|\n]*?`(\w+)`", text):
+        path = Path(file)
+        if not re.search(rf"\b{word}\b", CODE.get(path, SPECS.get(path, PROOFS.get(path, "")))):
+            yield f"no {word} in {file}"
+
+
+def edit_faults(text):
+    """The table of edits: each edit that there is, once, with the crate or the module of the file that it changes first."""
+    rows = re.findall(r"(?m)^\|[^|]+\| *(\w+) *\| *`(\w+)` *\|$", text)
+    for home, edit in rows:
+        if edit not in EDITS or home_of_edit(EDITS[edit]) != home:
+            yield f"no edit {edit} in {home}"
+    counts = [(it, [edit for _, edit in rows].count(it)) for it in EDITS]
+    yield from (f"{it} has {count} rows" for it, count in counts if count != 1)
+
+
+def home_of_edit(path):
+    file = re.search(r"(?m)^file: *(\S+)$", path.read_text(encoding="utf-8"))
+    return home_of(f"{path.parts[-3]}/{file[1]}")
 
 
 def proved_faults(text):
-    head, *sections = re.split(r"(?m)^\*\*([\w, ]+)\*\*$", text[: text.index("## What is only tested")])
-    found = top_contracts()
-    for line in re.findall(r"(?m)^- (`\w+`(?:, `\w+`)*):", head.replace(",\n  ", ", ")):
-        yield from clause_faults("the whole program", "the top call", QUOTED.findall(line), found)
-    for name, section in zip(sections[::2], sections[1::2]):
-        if name.split(",")[0] not in HOMES:
-            yield f"no crate and no module {name}"
-            continue
-        for part in re.findall(r"\*Clauses:\*(.*?)(?:\n-|\Z|\n\n)", section.replace("\n  ", " "), re.S):
-            for piece in part.split(";"):
-                yield from piece_faults(homes_of(name), piece)
+    """The clauses of both top calls, each said, and no others."""
+    for title, records in (("## One disk", ("AnswersOne", "RunsLawfully")), ("## Two disks", ("AnswersTwo",))):
+        said = clauses_said(section_of(text, title))
+        fields = [it for record in records for it in RECORDS["utm_cli", record]]
+        fields = [it for it in fields if it != "laws" or len(records) == 1]
+        yield from (f"{title}: no clause {it}" for it in said if it not in fields)
+        yield from (f"{title}: the clause {it} is not said" for it in fields if it not in said)
+        yield from (f"{title}: the clause {it} is said twice" for it in sorted(set(said)) if said.count(it) > 1)
+    for item in items_of(section_of(text, "## The laboratory")):
+        yield from call_faults(item)
+    for home, call, clause in re.findall(r"(?m) (\w+) (\w+): (\w+)$", section_of(text, "## From the disk")):
+        yield from clause_faults(f"the drawing, {home}", call, [clause], contracts(call, home))
 
 
-def answer_faults(text):
-    """The tables of answers: each call is one of its crate or module, and each clause one of these calls."""
-    section = text[text.index("## Answers and their causes") : text.index("## What is only tested")]
-    for cells in [[it.strip() for it in line.split("|")] for line in re.findall(r"(?m)^\|(.*)\|$", section)]:
-        if cells[-1] == "Clauses" or set(cells[0]) <= set("-"):
-            continue
-        calls = [("utm_cli", "`utm`"), ("utm_cli", "`utm_twin`")] if cells[0].isdigit() else re.findall(r"(\w+) ((?:`[\w:]+`(?:, )?)+)", cells[0])
-        found = []
-        for home, names in calls:
-            for name in QUOTED.findall(names):
-                found += contracts(name.split("::")[-1], home)
-                yield from clause_faults(f"{cells[0]} in {home}", name, [], contracts(name.split("::")[-1], home))
-        yield from clause_faults("the answers", cells[0], QUOTED.findall(cells[-1]), found)
+def section_of(text, title):
+    """What is below this heading, up to the next one of its height."""
+    level = title.split(" ")[0]
+    found = re.search(rf"(?ms)^{re.escape(title)}.*?\n(.*?)(?=^{level} |\Z)", text)
+    return found.group(1) if found else ""
+
+
+def items_of(section):
+    """The items of the lists, each in one line."""
+    return re.findall(r"(?m)^- (.*)$", re.sub(r"\n +", " ", section))
+
+
+def clauses_said(section):
+    """The clauses at the beginning of each item, as `a`, `b`: what they say."""
+    heads = [re.match(r"(`\w+`(?:, `\w+`)*): ", it) for it in items_of(section)]
+    return [name for head in heads if head for name in QUOTED.findall(head.group(1))]
+
+
+def call_faults(item):
+    """An item of calls: home `call`, `call`: `clause`, `clause`: what they say."""
+    head = re.match(r"(\w+) ((?:`[\w:]+`(?:, )?)+): ((?:`\w+`(?:, )?)*)", item)
+    if head is None or head.group(1) not in HOMES:
+        yield f"the laboratory: no call at the beginning of: {item[:40]}"
+        return
+    for call in QUOTED.findall(head.group(2)):
+        found = contracts(call.split("::")[-1], head.group(1))
+        yield from clause_faults("the laboratory", call, QUOTED.findall(head.group(3)), found)
+
+
+def laws_of_sources():
+    """The functions without arguments and results, by their homes."""
+    return {(HOME[path], name) for path, text in CODE.items() for name in re.findall(r"(?m)^pub fn (\w+)\(\)\n", text)}
+
+
+def law_faults(proved, model):
+    """The laws in both tables: each is there, and all are said."""
+    laws, said = laws_of_sources(), set()
+    for section in (section_of(proved, "## Laws that are proved"), section_of(model, "## What is proved of")):
+        for home, names in re.findall(r"(\w+) ((?:`\w+`(?:, )?)+)", section):
+            said |= {(home, it) for it in QUOTED.findall(names)}
+    for home, name in sorted(said - laws):
+        if home in HOMES and not contracts(name, home):
+            yield f"no law {name} in {home}"
+    yield from (f"the law {name} of {home} is not said" for home, name in sorted(laws - said))
 
 
 def readme_faults(text):
-    section = text[text.index("## What is promised") : text.index("## What is not proved")]
-    for brackets in re.findall(r"\((`\w+`(?:,\s+`\w+`)*)\)", section):
-        yield from clause_faults("the promises", "the top call", QUOTED.findall(brackets), top_contracts())
-
-
-def homes_of(name):
-    return [it.strip() for it in name.split(",") if it.strip() in HOMES]
-
-
-def piece_faults(homes, piece):
-    calls, _, clauses = piece.partition(": ")
-    for call in [it.split("::")[-1] for it in QUOTED.findall(calls)]:
-        if not any(has_word(it, call) for it in homes):
-            yield f"{homes[0]}: no call {call}"
-    names = [it.split("::")[-1] for it in QUOTED.findall(calls)]
-    found = [one for home in homes for name in names for one in contracts(name, home)]
-    for clause in QUOTED.findall(clauses):
-        if found and not any(clause in it for it in found):
-            yield f"{homes[0]}: {', '.join(names)} has no clause {clause}"
-        elif not any(has_word(it, clause) for it in (HOMES if "the traits" in calls else homes)):
-            yield f"{homes[0]}: no clause {clause}"
+    lines = len(text.split("\n")) - 1
+    if lines > 150:
+        yield f"{lines} lines, and at most 150 are to be read"
 
 
 def main():
@@ -263,10 +340,15 @@ def main():
     faults += [f"README.md: {it}" for it in readme_faults((TOP / "README.md").read_text(encoding="utf-8"))]
     docs = TOP / "docs"
     architecture = (docs / "ARCHITECTURE.md").read_text(encoding="utf-8")
-    faults += [f"docs/ARCHITECTURE.md: {it}" for it in architecture_faults(architecture)]
+    faults += [f"docs/ARCHITECTURE.md: {it}" for it in [*architecture_faults(architecture), *pair_faults(architecture)]]
     faults += [f"docs/RULES.md: {it}" for it in rule_faults((docs / "RULES.md").read_text(encoding="utf-8"))]
+    changing = (docs / "changing.md").read_text(encoding="utf-8")
+    faults += [f"docs/changing.md: {it}" for it in change_faults(changing)]
+    faults += [f"docs/edits.md: {it}" for it in edit_faults((docs / "edits.md").read_text(encoding="utf-8"))]
     proved = (docs / "PROVED.md").read_text(encoding="utf-8")
-    faults += [f"docs/PROVED.md: {it}" for it in [*proved_faults(proved), *answer_faults(proved)]]
+    faults += [f"docs/PROVED.md: {it}" for it in proved_faults(proved)]
+    model = (docs / "MODEL.md").read_text(encoding="utf-8")
+    faults += [f"docs/PROVED.md and docs/MODEL.md: {it}" for it in law_faults(proved, model)]
     for it in faults:
         print("tools/named.py:", it)
     return 1 if faults else 0

@@ -1,7 +1,8 @@
 #!/usr/bin/env python3
-"""Lists what a reader has to read to know what the call `utm_twin` promises, in docs/TRUSTED.md.
+"""Finds what a reader has to read to know what the call `utm_twin` promises.
 
-    python3 tools/trusted.py            writes the page
+    python3 tools/trusted.py            writes docs/TRUSTED.md: the order in which to read, and the sums
+    python3 tools/trusted.py --list     prints each definition with its file and its lines
     python3 tools/trusted.py --check    says where the page is another one; the status is 1 then
 
 It begins with the clauses of `utm_twin` in crates/utm_cli/src/twin/top.rt, and follows each word to its definition, and the words
@@ -21,38 +22,102 @@ PAGE = TOP / "docs" / "TRUSTED.md"
 START = ("utm_cli", ["twin", "top"], "utm_twin")
 LANGUAGE = ("⊥", "⊤", "Unit", "tt", "absurd")
 
+# The order in which to read: parts, and in each the crates with the files to begin with, below specs/.
+PARTS = (
+    ("The clauses", "what a call may answer, send and leave, for each word", (
+        ("utm_cli", "Answers Promise PromiseTwo Doing DoingTwo"),
+        ("call_parts", "Requests Asking Words Opening Leaving LeavingTwo"),
+        ("refusals", "Statuses Lines"),
+    )),
+    ("The outside", "what a disk, a line and a folder do, and what a stop leaves", (
+        ("kd_device", "Device Room Twin"),
+    )),
+    ("The cut", "acts that are done, over one file and two", (
+        ("device_acts", "Stands Opening Acting Said"),
+        ("device_run", "Running"),
+        ("twin_run", "Running"),
+        ("kdcfile_double", "Opening"),
+        ("monitor_core", "CoreValue"),
+    )),
+    ("The monitor", "tables, states, calls, endings, turns, commands: the trace of a script ([MODEL](MODEL.md))", (
+        ("kdcs_types", "Tables Keys Difference"),
+        ("abstract_monitor", "State Turns Statements Calls Locks Outcomes Endings Sessions Commands Trace"),
+    )),
+    ("The laws", "what the clause `laws` says of a run", (
+        ("laws_of_runs", "Lawful Access QueueLaws ManyRuns ResumeLaws SerialCuts"),
+        ("laws_of_states", "Cut Suits Facts Commits Replay"),
+    )),
+    ("The file", "which bytes stand for which tables ([kdcfile](kdcfile.md))", (
+        ("kdcfile_layout", "Layout Places Fresh Bound"),
+        ("kd_records", "Contents Keys Charge Identity"),
+        ("record_codec", "Values Records"),
+        ("kdcfile_store", "Paged"),
+        ("kdcfile_copies", "Copies"),
+        ("table_fit", "Suiting"),
+    )),
+    ("The texts", "what a definition, units and a script say, and their first faults", (
+        ("application_read", "Texts Definition"),
+        ("application_types", "Statements Generation Soundness UnitText Fitted"),
+        ("texts", "Grammar Spelling Faults Lines"),
+        ("kdcdef_read", "Meaning Said Table Values"),
+        ("application_check", "Generating Faults FitFaults"),
+        ("unit_read", "Grammar Spelling Faults"),
+        ("script_read", "Commands Script"),
+    )),
+    ("Updates", "which rows stay, and why a file is refused", (
+        ("kdcfile_update", "Updating Carrying Judging Report"),
+    )),
+    ("Trails", "what `trail` prints and `audit` asks", (
+        ("trail_run", "Entries OwnTrails OwnAudits InTurn"),
+        ("serial_audit", "Audit"),
+        ("audit_trail", "Written Lines Places Kept"),
+    )),
+    ("Base words", "names, numbers, printed bytes", (
+        ("kd_base", "Text Field"),
+    )),
+)
+
 INTRODUCTION = """# What has to be read
 
-`tools/trusted.py` makes this page, and `./test` checks that it is up to date.
-
-What `utm_twin`, the one call of the program, promises is what its clauses say. It is the record `AnswersTwo`,
-whose fields are clauses in words that are defined elsewhere; those of `utm` are among them, as `AnswersOne`. This page lists each
-definition that they reach: the words of the clauses, the words of their definitions, and so on, down to the words of
-the kit. Whoever has read these definitions knows what is promised. The rest of `specs/` and all of `proofs/` are lemmas
-with their proofs, and definitions that only lemmas and the contracts of inner calls name. The prover checks them: what
-does not follow is refused. So they need not be read, and need not be trusted.
-
-In `specs/` a file has definitions alone, as `Stored.antt`, or its name ends in `Laws`, as `AlongLaws.antt`. What has to
-be read is in files without lemmas, but for the lemmas that are named below; `tools/laws_apart.py` tries this.
+What `utm_twin`, the one call of the program, promises is what its clauses say. They are the record `AnswersTwo` of
+utm_cli, in words that are defined elsewhere; the clauses of `utm` are among them, as `AnswersOne`. Who has read the
+definitions that these clauses reach, down to the words of the kit, knows what is promised. [PROVED](PROVED.md) says it
+in words.
 
 {sums}
 
-What counts:
+    python3 tools/trusted.py --list
 
-- Of `utm_twin`, its comment, its signature and its clauses. Its body does not.
+prints each of these definitions with its file and its lines, and the {kit} words of the kit that they use.
+
+The rest of `specs/` and all of `proofs/` are lemmas with their proofs, and definitions that only lemmas and inner calls
+name. The prover checks them: what does not follow is refused. So they need not be read, and need not be trusted.
+Neither does a body of a function. In `specs/` a file has definitions alone, or its name ends in `Laws`; what has to be
+read is in files without lemmas, but for the lemmas named below.
+
+`main` in utm/src/main.rt, which hands the words to `utm_twin` and ends with its status, is no part of the list, nor are
+the twin and the room of kd_host, which it hands on: they are trusted ([PROVED](PROVED.md#what-is-trusted)).
+
+## The order in which to read
+
+From the clauses down. Begin in each crate with the files that are named; they are in its `specs/`. Who asks for one
+promise alone reads its clause in Answers.antt and follows the words of that one.
+
+| Part, with its lines | It says | Crates and files to begin with | Definitions | Lines |
+|---|---|---|---|---|
+{parts}
+
+## What counts
+
+- Of `utm_twin` its comment, its signature and its clauses.
 - A definition, a record or a data type, with its clauses, helpers and fields, and with the comment right above it. All
   that it names is reached. What comes after `unfolding` is not, for it says only how a body is checked.
-- A Rust type, and its `impl Model` where it has one, which says what value stands for it. A constant, where a
-  definition names it. A trait, with the clauses of its calls: they are what is asked of a device and of a room.
+- A Rust type, and its `impl Model` if it has one, which says what value stands for it. A constant, if a definition
+  names it. A trait, with the clauses of its calls: they are what is asked of a device and of a room.
 {lemmas}
 - Empty lines and imports do not count.
 
-`main` in utm/src/main.rt, which hands the words to `utm_twin` and ends with its status, is no part of the list, and
-neither are the twin and the room of kd_host, which it hands on. [PROVED.md](PROVED.md) says in words what the clauses
-say.
-
-The number after a name is that of its lines. The highest crate comes first, and each before those that it uses. A row
-without a file goes on with the file above it.
+`tools/trusted.py` makes this page, and `./test` checks that its sums are right and that it has every crate.
 """
 
 SUMS = """In sum there are {} crates, {} definitions and {} lines: {} in `specs/` and {} in `src/`.
@@ -247,12 +312,48 @@ def contract_words(page, contract):
 def page_text(finder):
     """The whole page."""
     reached = list(finder.reached.values())
-    crates = [it for it in crates_from_above() if any(one.crate == it for one in reached)]
     lemmas = lemmas_text([it for it in reached if it.shape == "plain"])
-    text = INTRODUCTION.format(sums=sums_text(len(crates), reached), lemmas=lemmas)
-    for crate in crates:
-        text += crate_text(crate, [it for it in reached if it.crate == crate])
-    return text + kit_text(finder.kit)
+    sums = sums_text(len({it.crate for it in reached}), reached)
+    kit = len({word for _, word in finder.kit})
+    return INTRODUCTION.format(sums=sums, kit=kit, parts=parts_text(reached), lemmas=lemmas)
+
+
+def parts_text(reached):
+    """The rows of the parts, a row for each crate."""
+    rows = []
+    for place, (part, says, crates) in enumerate(PARTS):
+        names = {crate for crate, _ in crates}
+        head = f"{place + 1}. {part}, {lines_in(it for it in reached if it.crate in names)} | {says}"
+        for crate, files in crates:
+            within = [it for it in reached if it.crate == crate]
+            row = f"{crate}: {', '.join(files.split())} | {grouped(len(within))} | {lines_in(within)}"
+            rows.append(f"| {head} | {row} |")
+            head = "|"
+    return "\n".join(rows)
+
+
+def lines_in(reached):
+    return grouped(sum(it.lines for it in reached))
+
+
+def order_faults(reached):
+    """What the order of reading leaves out or names in vain."""
+    ordered = [crate for _, _, crates in PARTS for crate, _ in crates]
+    crates = {it.crate for it in reached}
+    files = {(it.crate, it.file) for it in reached}
+    yield from (f"{it} is in no part of the order" for it in sorted(crates - set(ordered)))
+    yield from (f"{it} is not reached" for it in ordered if it not in crates)
+    yield from (f"{it} is in two parts" for it in sorted({it for it in ordered if ordered.count(it) > 1}))
+    for _, _, parts in PARTS:
+        for crate, names in parts:
+            yield from (f"no {it}.antt in {crate}" for it in names.split() if (crate, f"specs/{it}.antt") not in files)
+
+
+def list_text(finder):
+    """Each definition with its file and its lines, the highest crate first, and the words of the kit."""
+    reached = list(finder.reached.values())
+    crates = [it for it in crates_from_above() if any(one.crate == it for one in reached)]
+    return "".join(crate_text(it, [one for one in reached if one.crate == it]) for it in crates).lstrip("\n") + kit_text(finder.kit)
 
 
 def sums_text(crates, reached):
@@ -327,26 +428,11 @@ def kit_text(kit):
 # ---- the check
 
 
-def entries_of(text):
-    """The definitions of a page, each with its lines."""
-    found, crate, file = {}, "", ""
-    for line in text.split("\n"):
-        head = re.match(r"## (\w+):", line)
-        crate = head.group(1) if head else crate
-        row = re.match(r"\| (?:(\S+) )?\| (`.*) \| [\d,]*", line)
-        if row:
-            file = row.group(1) or file
-            for name, lines in re.findall(r"`([^`]+)` (\d+)", row.group(2)):
-                found[f"{crate}/{file}: {name}"] = lines
-    return found
-
-
 def differences(old, new):
-    before, now = entries_of(old), entries_of(new)
-    found = [f"new: {it}" for it in now if it not in before]
-    found += [f"no longer: {it}" for it in before if it not in now]
-    found += [f"{before[it]} lines before, {now[it]} now: {it}" for it in now if it in before and before[it] != now[it]]
-    return found or ["the text around the lists"]
+    """The lines of the page that are there no longer, and those that are to be there."""
+    before, now = old.split("\n"), new.split("\n")
+    found = [f"no longer: {it}" for it in before if it not in now] + [f"now: {it}" for it in now if it not in before]
+    return found or ["the order of its lines"]
 
 
 def check(text):
@@ -360,13 +446,20 @@ def check(text):
 
 
 def main(words):
-    if words not in ([], ["--check"]):
+    if words not in ([], ["--check"], ["--list"]):
         sys.exit(__doc__)
     finder = Finder()
     finder.run()
     if finder.unknown:
         print("tools/trusted.py: no definition is found for:", *sorted(finder.unknown), sep="\n  ")
         return 1
+    faults = list(order_faults(finder.reached.values()))
+    if faults:
+        print("tools/trusted.py: the order in which to read:", *faults, sep="\n  ")
+        return 1
+    if words == ["--list"]:
+        print(list_text(finder), end="")
+        return 0
     text = page_text(finder)
     if words:
         return check(text)

@@ -1,17 +1,16 @@
 #!/usr/bin/env python3
-"""Writes which crates each crate uses into the list of crates in docs/ARCHITECTURE.md.
+"""Writes which crates each crate uses into the tables of crates in docs/ARCHITECTURE.md.
 
-    python3 tools/uses.py            writes the list
-    python3 tools/uses.py --check    says where the list is another one; the status is 1 then
+    python3 tools/uses.py            writes the last cells of their rows
+    python3 tools/uses.py --check    says where these are others; the status is 1 then
 
-Behind a crate are the highest of those that it uses: those that its sources name, and that no other one of these stands
-on, in the order of crates.txt. It is tried too that the page has each crate, after all that it uses, and that crates.txt
+In the row of a crate are the highest of those that it uses: those that its sources name, and that no other one of these
+stands on, in the order of crates.txt. It is tried too that the page has each crate, after all that it uses, and that crates.txt
 names no crate for another one that does not use it, by itself or by one that it uses.
 """
 
 import re
 import sys
-from textwrap import fill
 
 sys.dont_write_bytecode = True
 
@@ -19,9 +18,8 @@ from crates import TOP, listed_crates
 
 PAGE = TOP / "docs" / "ARCHITECTURE.md"
 BEGIN, END = "## The crates", "## The path of the data"
-ENTRY = re.compile(r"(?m)^- \*\*(\w+)\*\*\s+\(uses\s+([^)]*)\)")
+ROW = re.compile(r"(?m)^\| \*\*(\w+)\*\* \| ([^|]+) \| ([^|]*) \|$")
 NAMED = re.compile(r"(?m)^\s*(?:pub )?use (?!Rattle\b)(\w+)|\bRattle\.(\w+)")
-WIDTH = 120
 
 
 def named_in(crate):
@@ -55,30 +53,29 @@ def words_of(uses):
 
 
 def list_faults(section, uses):
-    """What is wrong in the list of crates."""
+    """What is wrong in the tables of crates."""
     seen = []
-    for name, said in ENTRY.findall(section):
+    for name, _, said in ROW.findall(section):
         if name not in uses:
             yield f"{name} is no crate"
             continue
-        if " ".join(said.split()) != words_of(uses[name]):
+        if name in seen:
+            yield f"{name} has two rows"
+        if said != words_of(uses[name]):
             yield f"{name} uses {words_of(uses[name])}"
         yield from (f"{name} is before {it}" for it in uses[name] if it not in seen)
         seen.append(name)
-    yield from (f"{name} has no entry" for name in uses if name not in seen)
+    yield from (f"{name} has no row" for name in uses if name not in seen)
 
 
 def with_uses(section, uses):
-    """The list of crates with what each uses. A paragraph is filled anew where that was another."""
+    """The tables of crates with what each uses."""
 
-    def mend(paragraph):
-        entry = ENTRY.match(paragraph)
-        if not entry or entry[1] not in uses or " ".join(entry[2].split()) == words_of(uses[entry[1]]):
-            return paragraph
-        text = f"- **{entry[1]}** (uses {words_of(uses[entry[1]])})" + paragraph[entry.end() :]
-        return fill(" ".join(text.split()), WIDTH, subsequent_indent="  ", break_on_hyphens=False, break_long_words=False)
+    def mend(row):
+        name, purpose, said = row.groups()
+        return f"| **{name}** | {purpose} | {words_of(uses[name]) if name in uses else said} |"
 
-    return "\n".join(mend(it) for it in re.split(r"\n(?=\s*- |\n)", section))
+    return ROW.sub(mend, section)
 
 
 def main(words):

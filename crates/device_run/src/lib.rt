@@ -13,6 +13,8 @@ mod commits;
 mod reopens;
 mod script;
 mod storing;
+mod watcher;
 
 pub use reopens::Reopens;
-pub use script::{run_script, run_with};
+pub use script::{run_on, run_script, run_with};
+pub use watcher::{Nobody, Watcher};

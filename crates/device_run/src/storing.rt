@@ -9,6 +9,7 @@ ghost use Rattle.device_run.specs.{Storing.{FailedSteps, IsReadyWith, TookSteps}
 
 use crate::commits::count_commits;
 use crate::reopens::Reopens;
+use crate::watcher::Watcher;
 use abstract_monitor::Command;
 use device_acts::keep_acts;
 use device_acts::record_commits::{acts_are_named, steps_can_be_stored};
@@ -19,12 +20,13 @@ use monitor_core::Core;
 use monitor_core::script_run::Sink;
 use std::alloc::Global;
 
-/// A keeper under a script, its files made with this fingerprint, and how many commits it made.
+/// A keeper under a script, its files made with this fingerprint, how many commits it made, and who sees the turns.
 #[derive(Drop)]
-pub(crate) struct Storing<'a, K: Reopens> {
+pub(crate) struct Storing<'a, 'b, K: Reopens, W: Watcher> {
     pub(crate) keeper: &'a mut K,
     pub(crate) fingerprint: &'a [u8; 32],
     pub(crate) commits: u64,
+    pub(crate) watcher: &'b mut W,
 }
 
 // All memory is given up, and a monitor starts from what the keeper has.
@@ -56,7 +58,7 @@ fn start_again<K: Reopens>(
 /// What is sent when a RESTART is done.
 const RESTARTED: &[u8] = b"RESTART\n";
 
-impl<K: Reopens> Sink for Storing<'_, K> {
+impl<K: Reopens, W: Watcher> Sink for Storing<'_, '_, K, W> {
     type Error = OpenError;
 
     ghost ready = { λ s c. K.ready s.keeper.now × IsReadyWith s.fingerprint.now c (K.identity s.keeper.now) (K.kept s.keeper.now) (K.file s.keeper.now) (K.state s.keeper.now) (K.leaves s.keeper.now) };
@@ -72,11 +74,13 @@ impl<K: Reopens> Sink for Storing<'_, K> {
     fn turn(&mut self, alloc: Global, core: Core, task: u16) -> Result<(Core, bool), OpenError> {
         steps_commit_once();
         steps_can_be_stored();
+        self.watcher.before(&core, task);
         let (next, did) = core.turn(alloc, task)?;
         let acts = did.acts.as_slice();
         prove!(acts_are_named(acts)); // for the proof
         keep_acts(alloc, self.keeper, acts)?;
         count_commits(&mut self.commits, acts);
+        self.watcher.after(&next, task, &did);
         Ok((next, did.moved))
     }
 

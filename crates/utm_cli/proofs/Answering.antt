@@ -16,20 +16,21 @@ use Rattle.refusals.specs.declared.error.FileRefusal.{FileRefusal}
 use Rattle.trail_run.specs.Auditing.{TrailsAreJudgedOnce}
 use Rattle.trail_run.specs.OwnAudits.{OwnTrailsHold}
 use Rattle.utm_cli.specs.Answers.{AnswersOne}
-use Rattle.utm_cli.specs.Asking.{Errand, AreThere, Reading, ReadsFor, TellsTexts, app_of}
-use Rattle.utm_cli.specs.AskingLaws.{misses_of, moved, not_missed, ok_not, one_reading, reads_of, err_not, err_same}
-use Rattle.utm_cli.specs.Beside.{SendsRefusal}
+use Rattle.call_parts.specs.Asking.{Errand, AreThere, Reading, ReadsFor, TellsTexts, app_of}
+use Rattle.call_parts.specs.AskingLaws.{misses_of, moved, not_missed, ok_not, one_reading, reads_of, err_not, err_same}
+use Rattle.call_parts.specs.Beside.{SendsRefusal}
 use Rattle.utm_cli.specs.CutsLaws.{cut_at_call, cut_since_call}
 use Rattle.utm_cli.specs.Doing.{AuditRefuses, RefusesBy, Refuses, Starts, tables_of}
 use Rattle.utm_cli.specs.EndsLaws.{ends}
 use Rattle.utm_cli.specs.Parts.{EndsOne, HasTrailBytes}
-use Rattle.utm_cli.specs.Promise.{AsksNothing, AttachedBy, AuditsOwn, Completes, ForStart, HaltsRun, IsCutOfRun, LeavesFile, Misses, Reads, Request, RoomTells, RunsLawfully, StopsRun, Tells, call}
-use Rattle.utm_cli.specs.Words.{usage_line}
-use Rattle.utm_cli.specs.declared.words.Word.{Word}
-use Rattle.utm_cli.specs.declared.words.Word.TheVariants.{Gen, Run, Show, Update, Trail, Audit, Make}
+use Rattle.call_parts.specs.Requests.{AsksNothing, Misses, Reads, Request}
+use Rattle.utm_cli.specs.Promise.{AttachedBy, AuditsOwn, Completes, ForStart, HaltsRun, IsCutOfRun, LeavesFile, RoomTells, RunsLawfully, StopsRun, Tells, call}
+use Rattle.call_parts.specs.Words.{usage_line}
+use Rattle.call_parts.specs.declared.words.Word.{Word}
+use Rattle.call_parts.specs.declared.words.Word.TheVariants.{Gen, Run, Show, Update, Trail, Audit, Make}
 use Rattle.utm_cli.proofs.Audited.{own_errand, own_reading, own_not_refused}
 use Rattle.utm_cli.proofs.Codes.{none_refused, not_device, not_refused, of_done, of_refused, of_run, with_room}
-use Rattle.utm_cli.proofs.MadeReading.{asked_make}
+use Rattle.call_parts.proofs.MadeReading.{asked_make}
 
 -- the words as they were handed on
 pub asked_words : {S : Type 0} (bytes : S → List ℕ) (given own : List S) (word : Word) (base : List ℕ) → given ≡ own → Request (map bytes given) word base → Request (map bytes own) word base

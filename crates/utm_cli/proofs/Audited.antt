@@ -7,11 +7,11 @@ use Rattle.laws_of_runs.specs.Applied.{applied}
 use Rattle.refusals.specs.declared.error.FileRefusal.{FileRefusal}
 use Rattle.trail_run.specs.Auditing.{TrailsAreJudgedOnce}
 use Rattle.trail_run.specs.OwnAudits.{OwnTrailsHold, own_trail}
-use Rattle.utm_cli.specs.declared.words.Word.TheVariants.{Audit}
-use Rattle.utm_cli.specs.Asking.{Errand, ThirdAsks}
-use Rattle.utm_cli.specs.PromiseTwo.{ReadsTwo}
+use Rattle.call_parts.specs.declared.words.Word.TheVariants.{Audit}
+use Rattle.call_parts.specs.Asking.{Errand, ThirdAsks}
+use Rattle.call_parts.specs.Requests.{ReadsTwo, Reads}
 use Rattle.utm_cli.specs.Doing.{HoldsAll, AuditRefuses, own}
-use Rattle.utm_cli.specs.Promise.{Reads, AuditsOwn}
+use Rattle.utm_cli.specs.Promise.{AuditsOwn}
 use Rattle.utm_cli.specs.AuditLaws.{holds_or_differs}
 
 module _ (hold : OwnTrailsHold) (IsOf : Option ℕ → Type 0) (words : List (List ℕ)) (room : RoomState) (o : AuditsOwn IsOf words room) where

@@ -14,18 +14,19 @@ use Rattle.device_acts.specs.MeaningLaws.{answers_exclude_each_other}
 use Rattle.kdcfile_update.specs.Updating.{Stored}
 use Rattle.device_acts.specs.Said.{Said, SaidPart}
 use Rattle.refusals.specs.declared.error.FileRefusal.{FileRefusal}
-use Rattle.utm_cli.specs.MadeReport.{report_of}
-use Rattle.utm_cli.specs.declared.words.Word.{Word}
-use Rattle.utm_cli.specs.declared.words.Word.TheVariants.{Gen, Run, Show, Update, Trail, Audit, Make}
-use Rattle.utm_cli.specs.Asking.{Errand, app_of}
-use Rattle.utm_cli.specs.Doing.{IsOverFile, Opens, OpensWith, OpeningRefuses, StartsBy, Starts, RefusesBy, Refuses, identity_of, own, tables_by, tables_of, acts_by, acts_of, held_line, trail_of}
-use Rattle.utm_cli.specs.Asking.{looking_word, storing_word}
+use Rattle.call_parts.specs.MadeReport.{report_of}
+use Rattle.call_parts.specs.declared.words.Word.{Word}
+use Rattle.call_parts.specs.declared.words.Word.TheVariants.{Gen, Run, Show, Update, Trail, Audit, Make}
+use Rattle.call_parts.specs.Asking.{Errand, app_of, looking_word, storing_word}
+use Rattle.utm_cli.specs.Doing.{IsOverFile, OpensWith, StartsBy, Starts, RefusesBy, Refuses, own, tables_by, tables_of, acts_by, acts_of, held_line, trail_of}
+use Rattle.call_parts.specs.Opening.{Opens, OpeningRefuses, identity_of}
 use Rattle.utm_cli.specs.Parts.{looked_by}
-use Rattle.utm_cli.specs.declared.errand.Looking.{Looking}
-use Rattle.utm_cli.specs.declared.errand.Looking.TheVariants as looking
-use Rattle.utm_cli.specs.declared.errand.Storing.{Storing}
-use Rattle.utm_cli.specs.declared.errand.Storing.TheVariants as storing
-use Rattle.utm_cli.specs.Promise.{RanOver, RanBy, Ran, IsCutOver, IsCutBy, IsCutOfRun, IsFront, SaysFront, MakesFile, MayAttach, MayHandOn, HandsOn, WritesActsAlone, Tells}
+use Rattle.call_parts.specs.declared.errand.Looking.{Looking}
+use Rattle.call_parts.specs.declared.errand.Looking.TheVariants as looking
+use Rattle.call_parts.specs.declared.errand.Storing.{Storing}
+use Rattle.call_parts.specs.declared.errand.Storing.TheVariants as storing
+use Rattle.utm_cli.specs.Promise.{RanOver, RanBy, Ran, IsCutOver, IsCutBy, IsCutOfRun, IsFront, SaysFront, MakesFile, MayHandOn, HandsOn, WritesActsAlone, Tells}
+use Rattle.call_parts.specs.Leaving.{MayAttach}
 use Rattle.utm_cli.proofs.Ran.{part_then, nothing_said}
 
 -- ---- what a call starts from

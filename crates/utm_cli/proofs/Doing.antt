@@ -27,11 +27,12 @@ use Rattle.device_acts.specs.LinesLaws.{tables_same, kept_content, lines_within}
 use Rattle.device_acts.specs.WritingLaws.{quiet_begun}
 use Rattle.device_run.specs.Running.{commits_most, IsRunning, WithinSteps, StepsWrite, Stops, Ran as RanSteps}
 use Rattle.device_run.specs.TablesLaws.{tables_go}
-use Rattle.utm_cli.specs.declared.words.Word.{Word}
-use Rattle.utm_cli.specs.declared.words.Word.TheVariants.{Gen, Run}
-use Rattle.utm_cli.specs.Asking.{Errand, CanRun, app_of}
-use Rattle.utm_cli.specs.Doing.{identity_of, own, acts_by, acts_of}
-use Rattle.utm_cli.specs.Report.{report}
+use Rattle.call_parts.specs.declared.words.Word.{Word}
+use Rattle.call_parts.specs.declared.words.Word.TheVariants.{Gen, Run}
+use Rattle.call_parts.specs.Asking.{Errand, CanRun, app_of}
+use Rattle.call_parts.specs.Opening.{identity_of}
+use Rattle.utm_cli.specs.Doing.{own, acts_by, acts_of}
+use Rattle.call_parts.specs.Report.{report}
 use Rattle.utm_cli.specs.Parts.{ErrandHalts, ErrandStops, ErrandWrites}
 use Rattle.utm_cli.specs.Promise.{RanOver, begun_with}
 use Rattle.laws_of_states.specs.EndsLaws.{durable_same}

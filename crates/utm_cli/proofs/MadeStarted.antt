@@ -19,7 +19,7 @@ use Rattle.monitor_core.specs.CoreValue.{CoreValue}
 use Rattle.monitor_core.specs.CoreSteps.{durable_of}
 use Rattle.device_run.specs.Running.{IsRunning}
 use Rattle.device_acts.specs.Stands.{KeepsTables, identity_for}
-use Rattle.utm_cli.specs.MadeReport.{report_with, report_by, report_of}
+use Rattle.call_parts.specs.MadeReport.{report_with, report_by, report_of}
 use Rattle.laws_of_states.specs.EndsLaws.{durable_same}
 use Rattle.laws_of_states.specs.TablesStayLaws.{started_tables}
 

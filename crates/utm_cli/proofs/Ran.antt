@@ -13,8 +13,9 @@ use Rattle.device_acts.specs.MeaningLaws.{nothing_stands, answers_exclude_each_o
 use Rattle.device_acts.specs.Said.{Said, SaidPart}
 use Rattle.device_acts.specs.Acting.{IsCutOf}
 use Rattle.device_run.specs.Running.{IsCutSince}
-use Rattle.utm_cli.specs.Asking.{Errand}
-use Rattle.utm_cli.specs.Doing.{Opens, identity_of, own, acts_of}
+use Rattle.call_parts.specs.Asking.{Errand}
+use Rattle.call_parts.specs.Opening.{Opens, identity_of}
+use Rattle.utm_cli.specs.Doing.{own, acts_of}
 use Rattle.utm_cli.specs.Promise.{IsCutOver}
 use Rattle.utm_cli.specs.CutsLaws.{as_it_was, cut_none, cut_since}
 

@@ -13,16 +13,17 @@ use Rattle.kdcfile_update.specs.declared.error.CarryError.{CarryError}
 use Rattle.kdcfile_update.specs.declared.error.CarryError.TheVariants as carrying
 use Rattle.refusals.specs.declared.error.FileRefusal.{FileRefusal}
 use Rattle.refusals.specs.declared.error.FileRefusal.TheVariants as why
-use Rattle.utm_cli.specs.declared.error.CallError.{CallError}
-use Rattle.utm_cli.specs.declared.error.CallError.TheVariants.{Refused}
-use Rattle.utm_cli.specs.declared.words.Word.{Word}
-use Rattle.utm_cli.specs.declared.words.Word.TheVariants.{Gen, Run, Show, Update, Trail, Audit, Make}
+use Rattle.call_parts.specs.declared.error.CallError.{CallError}
+use Rattle.call_parts.specs.declared.error.CallError.TheVariants.{Refused}
+use Rattle.call_parts.specs.declared.words.Word.{Word}
+use Rattle.call_parts.specs.declared.words.Word.TheVariants.{Gen, Run, Show, Update, Trail, Audit, Make}
 use Rattle.trail_run.specs.Auditing.{TrailsAreJudgedOnce}
-use Rattle.utm_cli.specs.Asking.{Errand}
+use Rattle.call_parts.specs.Asking.{Errand}
 use Rattle.utm_cli.specs.AuditLaws.{holds_or_differs, differs_once}
-use Rattle.utm_cli.specs.Causes.{of_open, of_carry}
-use Rattle.utm_cli.proofs.HandedOn.{handed, same_reason}
-use Rattle.utm_cli.specs.Doing.{OpensWith, OpeningRefuses, UpdateTakes, UpdateRefuses, StartsBy, Starts, RefusesBy, Refuses}
+use Rattle.call_parts.specs.Causes.{of_open, of_carry}
+use Rattle.call_parts.proofs.HandedOn.{handed, same_reason}
+use Rattle.utm_cli.specs.Doing.{OpensWith, UpdateTakes, UpdateRefuses, StartsBy, Starts, RefusesBy, Refuses}
+use Rattle.call_parts.specs.Opening.{OpeningRefuses}
 
 -- ---- a file is answered in one way
 

@@ -12,16 +12,18 @@ use Rattle.kdcfile_update.specs.Updating.{Stored, UpdateWrites}
 use Rattle.audit_trail.specs.declared.entry.Trail.{Trail as Kept}
 use Rattle.refusals.specs.Statuses.{IsOneOf}
 use Rattle.refusals.specs.declared.error.FileRefusal.{FileRefusal}
-use Rattle.utm_cli.specs.Asking.{Errand, app_of, audit_errand, looking_errand, making, storing_errand, update_errand}
-use Rattle.utm_cli.specs.Doing.{AuditRefuses, HoldsAll, IsOverFile, Opens, OpeningRefuses, UpdateRefuses, UpdateTakes, held_line, identity_of, own}
-use Rattle.utm_cli.specs.MadeReport.{report_of}
+use Rattle.call_parts.specs.Asking.{Errand, app_of, audit_errand, looking_errand, making, storing_errand, update_errand}
+use Rattle.utm_cli.specs.Doing.{AuditRefuses, HoldsAll, IsOverFile, UpdateRefuses, UpdateTakes, held_line, own}
+use Rattle.call_parts.specs.Opening.{Opens, OpeningRefuses, identity_of}
+use Rattle.call_parts.specs.MadeReport.{report_of}
 use Rattle.utm_cli.specs.Parts.{DoesOne, EndsOne, ErrandHalts, ErrandStops, HasTrailBytes, LooksBytes, LooksFront, RanOpened, RanUpdate, StopsInUpdate, StopsOverStore, StoreWrites, looked_by}
-use Rattle.utm_cli.specs.Promise.{CallFailed, HaltsRun, IsCutOfRun, LeavesLines, MakesFile, MayAttach, Ran, SaysFront, StopsRun}
-use Rattle.utm_cli.specs.declared.error.CallError.{CallError}
-use Rattle.utm_cli.specs.declared.error.CallError.TheVariants.{Refused, Failed}
-use Rattle.utm_cli.specs.declared.errand.Looking.{Looking}
-use Rattle.utm_cli.specs.declared.errand.Storing.{Storing}
-use Rattle.utm_cli.specs.declared.errand.Work.{Work}
+use Rattle.call_parts.specs.Leaving.{CallFailed, MayAttach}
+use Rattle.utm_cli.specs.Promise.{HaltsRun, IsCutOfRun, LeavesLines, MakesFile, Ran, SaysFront, StopsRun}
+use Rattle.call_parts.specs.declared.error.CallError.{CallError}
+use Rattle.call_parts.specs.declared.error.CallError.TheVariants.{Refused, Failed}
+use Rattle.call_parts.specs.declared.errand.Looking.{Looking}
+use Rattle.call_parts.specs.declared.errand.Storing.{Storing}
+use Rattle.call_parts.specs.declared.errand.Work.{Work}
 use Rattle.utm_cli.proofs.ByWord.{OpensFile, cut_aside, cut_stored, for_opened, hands_on, is_there, looking_opens, looking_sends, may_hand_on, opened_once, opening_over}
 use Rattle.utm_cli.proofs.ByWord.{ran_aside, ran_stored, refuses_opening, starts, stored_opening, storing_keeps, told_over}
 use Rattle.utm_cli.proofs.Stopping.{at_error, looking_is_no_run, on_err_weaker}

@@ -17,11 +17,12 @@ use Rattle.application_types.specs.Soundness.{AreLimits}
 use Rattle.kdcfile_update.specs.Laws.{TakenTablesSuit}
 use Rattle.kdcfile_update.specs.Updating.{Stored}
 use Rattle.audit_trail.specs.Facts.{IsTrail}
-use Rattle.utm_cli.specs.Asking.{Errand, CanBeAudited, CanRun, app_of}
-use Rattle.utm_cli.specs.Words.{audits}
-use Rattle.utm_cli.specs.Doing.{Opens, StartsBy, Starts, tables_by, tables_of}
-use Rattle.utm_cli.specs.declared.words.Word.{Word}
-use Rattle.utm_cli.specs.declared.words.Word.TheVariants.{Gen, Run, Show, Update, Trail, Audit, Make}
+use Rattle.call_parts.specs.Asking.{Errand, CanBeAudited, CanRun, app_of}
+use Rattle.call_parts.specs.Words.{audits}
+use Rattle.call_parts.specs.Opening.{Opens}
+use Rattle.utm_cli.specs.Doing.{StartsBy, Starts, tables_by, tables_of}
+use Rattle.call_parts.specs.declared.words.Word.{Word}
+use Rattle.call_parts.specs.declared.words.Word.TheVariants.{Gen, Run, Show, Update, Trail, Audit, Make}
 use Rattle.utm_cli.specs.Promise.{RunsLawfully}
 use Rattle.laws_of_states.specs.EndsLaws.{durable_same}
 

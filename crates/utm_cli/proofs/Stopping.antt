@@ -6,12 +6,13 @@ use Rattle.kdcfile_update.specs.Updating.{Stored}
 use Rattle.kdcs_types.specs.Tables.{TableRows}
 use Rattle.device_acts.specs.Stands.{StandsForTables}
 use Rattle.device_run.specs.StoppingLaws.{halted_after, stopped_after}
-use Rattle.utm_cli.specs.Asking.{Errand, app_of, looking_word}
-use Rattle.utm_cli.specs.Doing.{Opens, acts_of, identity_of, own}
+use Rattle.call_parts.specs.Asking.{Errand, app_of, looking_word}
+use Rattle.call_parts.specs.Opening.{Opens, identity_of}
+use Rattle.utm_cli.specs.Doing.{acts_of, own}
 use Rattle.utm_cli.specs.Promise.{HaltsRun, StopsRun, begun_with}
-use Rattle.utm_cli.specs.declared.errand.Looking.{Looking}
-use Rattle.utm_cli.specs.declared.errand.Looking.TheVariants as looking
-use Rattle.utm_cli.specs.declared.words.Word.TheVariants.{Run}
+use Rattle.call_parts.specs.declared.errand.Looking.{Looking}
+use Rattle.call_parts.specs.declared.errand.Looking.TheVariants as looking
+use Rattle.call_parts.specs.declared.words.Word.TheVariants.{Run}
 use Rattle.utm_cli.proofs.ByWord.{opened_once}
 
 -- what holds at all holds after an error

@@ -3,7 +3,7 @@ use Rattle.std.proofs.Common.{◌≡◌, ◌∙◌, ℕ, List, ap}
 use Rattle.kdcs_types.specs.Tables.{TableRows}
 use Rattle.abstract_monitor.specs.declared.command.Command.{Command}
 use Rattle.trail_run.specs.Trailing.{text_of}
-use Rattle.utm_cli.specs.Asking.{Errand, app_of}
+use Rattle.call_parts.specs.Asking.{Errand, app_of}
 use Rattle.utm_cli.specs.Doing.{trail_of}
 
 pub text_is : (e : Errand) (tables : TableRows) (commands : List Command) → commands ≡ e.commands → (text : List ℕ) → text ≡ text_of (app_of e) e.fingerprint tables commands → text ≡ trail_of e tables

@@ -15,10 +15,11 @@ use Rattle.device_acts.specs.Said.{SameDisk}
 use Rattle.kdcfile_update.specs.Report.{is_same_print, report_by}
 use Rattle.kdcfile_update.specs.Updating.{Stored, IsUpToDate, IsUpdated, IsUpdateCut, RefusesAs, UpdateWrites, report_of}
 use Rattle.kdcfile_update.specs.declared.kd_update.error.UpdateError.{UpdateError}
-use Rattle.utm_cli.specs.declared.words.Word.{Word}
-use Rattle.utm_cli.specs.declared.words.Word.TheVariants.{Update}
-use Rattle.utm_cli.specs.Asking.{Errand}
-use Rattle.utm_cli.specs.Doing.{StartsBy, Starts, UpdateTakes, identity_of, tables_by, acts_by}
+use Rattle.call_parts.specs.declared.words.Word.{Word}
+use Rattle.call_parts.specs.declared.words.Word.TheVariants.{Update}
+use Rattle.call_parts.specs.Asking.{Errand}
+use Rattle.utm_cli.specs.Doing.{StartsBy, Starts, UpdateTakes, tables_by, acts_by}
+use Rattle.call_parts.specs.Opening.{identity_of}
 use Rattle.utm_cli.specs.Promise.{RanBy, Ran, IsCutBy, IsCutOfRun, WritesBy, WritesFor}
 use Rattle.utm_cli.specs.CutsLaws.{cut_since}
 

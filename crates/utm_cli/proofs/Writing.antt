@@ -15,11 +15,12 @@ use Rattle.device_acts.specs.Stands.{KeepsTables, StandsForTables}
 use Rattle.device_acts.specs.WritingLaws.{begun_after, none_begun}
 use Rattle.device_run.specs.Running.{commits_most}
 use Rattle.device_run.specs.TablesLaws.{tables_go}
-use Rattle.utm_cli.specs.declared.words.Word.{Word}
-use Rattle.utm_cli.specs.declared.words.Word.TheVariants.{Gen, Run, Show, Update, Trail, Audit, Make}
+use Rattle.call_parts.specs.declared.words.Word.{Word}
+use Rattle.call_parts.specs.declared.words.Word.TheVariants.{Gen, Run, Show, Update, Trail, Audit, Make}
 use Rattle.kdcfile_update.specs.Updating.{Stored}
-use Rattle.utm_cli.specs.Asking.{Errand}
-use Rattle.utm_cli.specs.Doing.{Opens, identity_of, own, acts_of}
+use Rattle.call_parts.specs.Asking.{Errand}
+use Rattle.call_parts.specs.Opening.{Opens, identity_of}
+use Rattle.utm_cli.specs.Doing.{own, acts_of}
 use Rattle.utm_cli.specs.Parts.{ErrandWrites, StoreWrites}
 use Rattle.utm_cli.specs.Promise.{MakesFile, WritesBy, WritesFor, WritesOver}
 use Rattle.utm_cli.proofs.ByWord.{starts, stored_opening}

@@ -13,17 +13,20 @@ use Rattle.refusals.specs.Statuses.{IsOneOf, status_of, status_of_file}
 use Rattle.refusals.specs.Texts.{NoReadFailed}
 use Rattle.refusals.specs.declared.error.FileRefusal.{FileRefusal}
 use Rattle.trail_run.specs.Trailing.{HasBytes}
-use Rattle.utm_cli.specs.declared.words.Word.TheVariants.{Make}
-use Rattle.utm_cli.specs.Asking.{app_of}
+use Rattle.call_parts.specs.declared.words.Word.TheVariants.{Make}
+use Rattle.call_parts.specs.Asking.{app_of}
 use Rattle.utm_cli.specs.Doing.{Starts, tables_of}
 use Rattle.utm_cli.specs.DoingTwo.{KeepsTwo, RefusesTwo, StartsTwo}
 use Rattle.utm_cli.specs.Parts.{LooksBytes}
-use Rattle.utm_cli.specs.Promise.{Attaches, AsksNothing, Call, CallFailed, Completes, EndsInCut, ForErrand, ForFile, ForOwnTrail, ForRefusal, ForRun}
+use Rattle.utm_cli.specs.Promise.{Attaches, Call, Completes, EndsInCut, ForErrand, ForFile, ForOwnTrail, ForRefusal, ForRun}
+use Rattle.call_parts.specs.Requests.{AsksNothing, Misses, Request, IsSingleCall}
+use Rattle.call_parts.specs.Leaving.{CallFailed, SaysPart}
 use Rattle.utm_cli.specs.Promise.{ForStart, ForStartAtRest, ForTrail, HaltsRun, HasDone, LeavesCuts, LeavesFile}
-use Rattle.utm_cli.specs.Promise.{Misses, Request, RunsLawfully, SaysFile, SaysPart, SaysRefusal, StopsRun, Writes, call}
-use Rattle.utm_cli.specs.PromiseTwo.{AttachesTwoBy, CompletesTwo, EndsTwo, FailsTwo, FaultsTwo, ForOwnTrailTwo, ForTwo, ForTwoErrand, ForTwoFiles, ForTwoRefusal, ForTwoStart, IsSingleCall}
-use Rattle.utm_cli.specs.PromiseTwo.{FineTwo, FrameTwin, MayAttachTwoBy, SaidTwo, SameNamesTwo, SaysPartTwo, SaysWhyTwo, StopsTwo, TwinCall}
-use Rattle.utm_cli.specs.Words.{usage_line}
+use Rattle.utm_cli.specs.Promise.{RunsLawfully, SaysFile, SaysRefusal, StopsRun, Writes, call}
+use Rattle.utm_cli.specs.PromiseTwo.{AttachesTwoBy, CompletesTwo, EndsTwo, ForOwnTrailTwo, ForTwo, ForTwoErrand, ForTwoFiles, ForTwoRefusal, ForTwoStart}
+use Rattle.call_parts.specs.LeavingTwo.{FailsTwo, FaultsTwo, FineTwo, FrameTwin, SaidTwo, SameNamesTwo, SaysPartTwo}
+use Rattle.utm_cli.specs.PromiseTwo.{MayAttachTwoBy, SaysWhyTwo, StopsTwo, TwinCall}
+use Rattle.call_parts.specs.Words.{usage_line}
 
 -- a call over one file ended with this status, and left this room and this device
 pub record AnswersOne (c : Call) (r : RoomState) (b : State) (la lb : ℕ → List ℕ → List ℕ → Type 0) (status : ℕ) : Type 0 where

@@ -9,7 +9,7 @@ use Rattle.refusals.specs.declared.error.FileRefusal.TheVariants as why
 use Rattle.trail_run.specs.Auditing.{IsJudged, TrailsAreJudgedOnce}
 use Rattle.trail_run.specs.declared.trail_words.verdict.Verdict.{Verdict}
 use Rattle.trail_run.specs.declared.trail_words.verdict.Verdict.TheVariants.{Holds, Differs}
-use Rattle.utm_cli.specs.Asking.{Errand, app_of}
+use Rattle.call_parts.specs.Asking.{Errand, app_of}
 use Rattle.utm_cli.specs.Doing.{HoldsAll, AuditRefuses, own, entry_count}
 use Rattle.utm_cli.specs.Parts.{Finds}
 

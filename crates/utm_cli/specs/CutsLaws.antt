@@ -10,11 +10,12 @@ use Rattle.device_acts.specs.Stands.{StandsForTables}
 use Rattle.device_acts.specs.Acting.{IsCutOf}
 use Rattle.device_run.specs.Running.{IsCutSince}
 use Rattle.kdcfile_update.specs.Updating.{Stored}
-use Rattle.utm_cli.specs.Asking.{Errand}
-use Rattle.utm_cli.specs.Doing.{Opens, StartsBy, Starts, identity_of, tables_by, acts_of}
+use Rattle.call_parts.specs.Asking.{Errand}
+use Rattle.call_parts.specs.Opening.{Opens, identity_of}
+use Rattle.utm_cli.specs.Doing.{StartsBy, Starts, tables_by, acts_of}
 use Rattle.utm_cli.specs.Promise.{IsCutOver, IsCutBy, IsCutOfRun}
-use Rattle.utm_cli.specs.declared.words.Word.{Word}
-use Rattle.utm_cli.specs.declared.words.Word.TheVariants.{Gen, Run, Show, Update, Trail, Audit, Make}
+use Rattle.call_parts.specs.declared.words.Word.{Word}
+use Rattle.call_parts.specs.declared.words.Word.TheVariants.{Gen, Run, Show, Update, Trail, Audit, Make}
 
 pub bytes_of_line : (line : List ℕ) (rest : List Act) → bytes_of (Emit line ∷ rest) ≡ line ++ bytes_of rest
 unfolding bytes_of

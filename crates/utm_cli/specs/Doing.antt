@@ -1,13 +1,10 @@
 -- What a call does, once its texts are read, over its KDCFILE.
-use Rattle.std.specs.Prelude.{◌≡◌, ⊤, ◌⊎◌, ℕ, List, [], ◌∷◌, length, Option, Some, None}
-use Rattle.kd_records.specs.Identity.{Identity}
+use Rattle.std.specs.Prelude.{◌≡◌, ⊤, ℕ, List, [], ◌∷◌, length, Option, Some, None}
 use Rattle.kdcs_types.specs.declared.act.Act.{Act}
 use Rattle.kdcs_types.specs.declared.act.Act.TheVariants.{Emit}
 use Rattle.kdcs_types.specs.Tables.{TableRows, empty_tables}
 use Rattle.abstract_monitor.specs.Listing.{listing}
 use Rattle.abstract_monitor.specs.Trace.{trace}
-use Rattle.device_acts.specs.Stands.{identity_for}
-use Rattle.device_acts.specs.Opening.{StartsFrom, IsRefused, IsOfOtherTexts}
 use Rattle.kdcfile_update.specs.Carrying.{carried}
 use Rattle.kdcfile_update.specs.declared.kd_update.error.UpdateError.TheVariants as cause
 use Rattle.kdcfile_update.specs.Updating.{Stored, Takes, RefusesAs, report_of as update_report}
@@ -18,19 +15,12 @@ use Rattle.trail_run.specs.InTurn.{AllHold}
 use Rattle.trail_run.specs.Auditing.{IsFirstToDiffer, verdict_line}
 use Rattle.trail_run.specs.Trailing.{text_of}
 use Rattle.trail_run.specs.declared.trail_words.verdict.Verdict.TheVariants.{Holds}
-use Rattle.utm_cli.specs.MadeReport.{report_of}
-use Rattle.utm_cli.specs.declared.words.Word.{Word}
-use Rattle.utm_cli.specs.declared.words.Word.TheVariants.{Gen, Run, Show, Update, Trail, Audit, Make}
-use Rattle.utm_cli.specs.Asking.{Errand, app_of}
-use Rattle.utm_cli.specs.Report.{report}
-
--- what the KDCFILE of an errand is made with
-abbrev pub identity_of : Errand → Identity
-identity_of e = identity_for e.application.generation e.fingerprint
-
--- the KDCFILE with these bytes is opened with these tables
-abbrev pub Opens : Errand → (bytes : List ℕ) → TableRows → Type 0
-Opens e bytes t = StartsFrom e.application.generation e.fingerprint bytes t
+use Rattle.call_parts.specs.MadeReport.{report_of}
+use Rattle.call_parts.specs.declared.words.Word.{Word}
+use Rattle.call_parts.specs.declared.words.Word.TheVariants.{Gen, Run, Show, Update, Trail, Audit, Make}
+use Rattle.call_parts.specs.Asking.{Errand, app_of}
+use Rattle.call_parts.specs.Report.{report}
+use Rattle.call_parts.specs.Opening.{identity_of, Opens, OpeningRefuses}
 
 -- tables in a file that is made for this errand
 abbrev pub own : Errand → TableRows → Stored
@@ -88,11 +78,6 @@ IsOverFile Update = ⊤
 IsOverFile Trail = ⊤
 IsOverFile Audit = ⊥
 IsOverFile (Make n) = ⊥
-
--- why bytes are not opened
-abbrev pub OpeningRefuses : Errand → (bytes : List ℕ) → FileRefusal → Type 0
-OpeningRefuses e bytes why =
-    ((why ≡ NotKdcfile) × IsRefused e.application.generation e.fingerprint bytes) ⊎ ((stored : List ℕ) × (why ≡ OtherGeneration stored) × IsOfOtherTexts stored e.fingerprint bytes)
 
 -- why what bytes stand for is not carried
 abbrev pub UpdateRefuses : Errand → (bytes : List ℕ) → FileRefusal → Type 0

@@ -9,10 +9,11 @@ use Rattle.abstract_monitor.specs.Trace.{bytes_of}
 use Rattle.laws_of_states.specs.Cut.{SentBy}
 use Rattle.device_run.specs.Running.{IsCutSince}
 use Rattle.kdcfile_update.specs.Updating.{Stored}
-use Rattle.utm_cli.specs.declared.words.Word.{Word}
-use Rattle.utm_cli.specs.declared.words.Word.TheVariants.{Gen, Run, Show, Update, Trail, Audit, Make}
-use Rattle.utm_cli.specs.Asking.{Errand}
-use Rattle.utm_cli.specs.Doing.{identity_of, tables_of, acts_of}
+use Rattle.call_parts.specs.declared.words.Word.{Word}
+use Rattle.call_parts.specs.declared.words.Word.TheVariants.{Gen, Run, Show, Update, Trail, Audit, Make}
+use Rattle.call_parts.specs.Asking.{Errand}
+use Rattle.call_parts.specs.Opening.{identity_of}
+use Rattle.utm_cli.specs.Doing.{tables_of, acts_of}
 use Rattle.utm_cli.specs.Promise.{IsCutOver, IsCutOfUpdate, IsCutBy, IsCutOfRun, EndsInCut}
 use Rattle.utm_cli.specs.CutsLaws.{bytes_of_line}
 use Rattle.device_acts.specs.ActingLaws.{bytes_joined}

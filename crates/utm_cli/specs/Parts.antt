@@ -2,11 +2,10 @@
 use Rattle.std.specs.Prelude.{◌≡◌, ◌⊎◌, ℕ, IsTrue, List, [], ◌∷◌, Some, Result, OnOk, OnErr, IsErrOf}
 use Rattle.kd_device.specs.Device.{State, Frame, LeavesOnly, Only, SameFaults}
 use Rattle.kd_device.specs.Rest.{Rests}
-use Rattle.kd_records.specs.Identity.{Identity}
 use Rattle.kdcs_types.specs.Tables.{TableRows}
 use Rattle.abstract_monitor.specs.Listing.{listing}
 use Rattle.abstract_monitor.specs.Trace.{tables_after}
-use Rattle.device_acts.specs.Opening.{IsOpening, opening_most}
+use Rattle.device_acts.specs.Opening.{opening_most}
 use Rattle.device_acts.specs.Stands.{StandsForTables}
 use Rattle.device_acts.specs.Acting.{WithinActs, WritesBegun}
 use Rattle.device_acts.specs.Said.{SaidPart}
@@ -18,20 +17,18 @@ use Rattle.trail_run.specs.declared.trail_words.verdict.Verdict.{Verdict}
 use Rattle.refusals.specs.declared.error.FileRefusal.{FileRefusal}
 use Rattle.refusals.specs.Lines.{file_line}
 use Rattle.refusals.specs.Statuses.{IsOneOf, status_of_file}
-use Rattle.utm_cli.specs.Words.{file_name}
-use Rattle.utm_cli.specs.declared.error.CallError.{CallError}
-use Rattle.utm_cli.specs.declared.error.CallError.TheVariants.{Refused, Failed}
-use Rattle.utm_cli.specs.declared.errand.Looking.{Looking}
-use Rattle.utm_cli.specs.declared.errand.Looking.TheVariants as looking
-use Rattle.utm_cli.specs.declared.words.Word.TheVariants.{Run, Trail}
-use Rattle.utm_cli.specs.Asking.{Errand, app_of}
+use Rattle.call_parts.specs.Words.{file_name}
+use Rattle.call_parts.specs.declared.error.CallError.{CallError}
+use Rattle.call_parts.specs.declared.error.CallError.TheVariants.{Refused, Failed}
+use Rattle.call_parts.specs.declared.errand.Looking.{Looking}
+use Rattle.call_parts.specs.declared.errand.Looking.TheVariants as looking
+use Rattle.call_parts.specs.declared.words.Word.TheVariants.{Run, Trail}
+use Rattle.call_parts.specs.Asking.{Errand, app_of}
 use Rattle.kdcfile_update.specs.Updating.{Stored, IsUpdated, IsUpdateCut}
-use Rattle.utm_cli.specs.Doing.{Opens, UpdateTakes, Starts, Refuses, identity_of, own, trail_of, acts_of}
-use Rattle.utm_cli.specs.Promise.{RanOver, IsCutOver, IsCutOfRun, SaysFront, AttachedBy, CallFailed, HaltsRun, HandsOn, HasRun, LeavesFile, MayHandOn, SaysWhy, StopsRun, Tells, WritesFor, WritesOver}
-
--- a stop within the opening of a file leaves what it may leave there
-abbrev pub LeavesOpening : Identity → (a b : State) → (la lb : ℕ → List ℕ → List ℕ → Type 0) → Type 0
-LeavesOpening i a b la lb = IsTrue a.told → LeavesOnly a b la lb (IsOpening i a la)
+use Rattle.call_parts.specs.Opening.{Opens, identity_of}
+use Rattle.utm_cli.specs.Doing.{UpdateTakes, Starts, Refuses, own, trail_of, acts_of}
+use Rattle.utm_cli.specs.Promise.{RanOver, IsCutOver, IsCutOfRun, SaysFront, AttachedBy, HaltsRun, HandsOn, HasRun, LeavesFile, MayHandOn, SaysWhy, StopsRun, Tells, WritesFor, WritesOver}
+use Rattle.call_parts.specs.Leaving.{CallFailed}
 
 -- whatever became of them, the acts of the errand were begun from these tables
 abbrev pub WithinErrand : Errand → TableRows → (a b : State) → (la lb : ℕ → List ℕ → List ℕ → Type 0) → Type 0

@@ -6,13 +6,14 @@ use Rattle.kdcfile_double.specs.Opening.{SameFiles}
 use Rattle.refusals.specs.Lines.{file_line}
 use Rattle.refusals.specs.Statuses.{IsOneOf, status_of_file}
 use Rattle.refusals.specs.declared.error.FileRefusal.{FileRefusal}
-use Rattle.utm_cli.specs.Asking.{Errand}
+use Rattle.call_parts.specs.Asking.{Errand}
 use Rattle.utm_cli.specs.Parts.{LooksBytes}
-use Rattle.utm_cli.specs.declared.error.CallError.{CallError}
-use Rattle.utm_cli.specs.declared.error.CallError.TheVariants.{Refused, Failed}
+use Rattle.call_parts.specs.declared.error.CallError.{CallError}
+use Rattle.call_parts.specs.declared.error.CallError.TheVariants.{Refused, Failed}
 use Rattle.utm_cli.specs.DoingTwo.{KeepsTwo, RefusesTwo, StartsTwo}
-use Rattle.utm_cli.specs.OpeningTwo.{StaysAsItIs}
-use Rattle.utm_cli.specs.PromiseTwo.{AttachesTwoBy, EndsTwo, FailsTwo, FaultsTwo, FineTwo, FrameTwin, MayAttachTwoBy, SaysPartTwo, SaysWhyTwo, StopsTwo, TellsTwo}
+use Rattle.call_parts.specs.OpeningTwo.{StaysAsItIs}
+use Rattle.utm_cli.specs.PromiseTwo.{AttachesTwoBy, EndsTwo, MayAttachTwoBy, SaysWhyTwo, StopsTwo, TellsTwo}
+use Rattle.call_parts.specs.LeavingTwo.{FailsTwo, FaultsTwo, FineTwo, FrameTwin, SaysPartTwo}
 
 -- what an errand over the two files of a BASE did, and what it answered
 pub record DoesTwo (e : Errand) (base : List ℕ) (result : Result Unit CallError) (a b : Both) (la lb : ℕ → List ℕ → List ℕ → List ℕ → Type 0) : Type 0 where

@@ -1,9 +1,8 @@
 -- The words in which the top call promises.
-use Rattle.std.specs.Prelude.{◌≡◌, ⊤, ◌⊎◌, ◌≤◌, ℕ, ◌+◌, Bool, true, IsTrue, List, [], ◌∷◌, ◌++◌, take, Option, Some, None, Ok, Err}
+use Rattle.std.specs.Prelude.{◌≡◌, ⊤, ◌⊎◌, ◌≤◌, ℕ, ◌+◌, Bool, true, IsTrue, List, [], ◌∷◌, ◌++◌, take, Option, None, Ok, Err}
 use Rattle.kd_device.specs.Device.{State, Rose, LeavesOnly, Only}
-use Rattle.kd_device.specs.Room.{RoomState, text_of}
+use Rattle.kd_device.specs.Room.{RoomState}
 use Rattle.kd_records.specs.Identity.{Identity}
-use Rattle.kdcfile_layout.specs.Layout.{IsNoImage}
 use Rattle.kdcs_types.specs.Tables.{TableRows}
 use Rattle.kdcs_types.specs.declared.act.Act.{Act}
 use Rattle.abstract_monitor.specs.State.{Application}
@@ -33,44 +32,15 @@ use Rattle.refusals.specs.declared.error.Refusal.{Refusal}
 use Rattle.refusals.specs.declared.error.FileRefusal.{FileRefusal}
 use Rattle.refusals.specs.Lines.{refusal_line, file_line}
 use Rattle.refusals.specs.Statuses.{IsOneOf, status_of, status_of_file}
-use Rattle.utm_cli.specs.declared.words.Word.{Word}
-use Rattle.utm_cli.specs.declared.words.Word.TheVariants.{Gen, Run, Show, Update, Trail, Audit, Make}
-use Rattle.utm_cli.specs.Words.{request_of, definition_name, units_name, script_name, trail_name, file_name}
-use Rattle.utm_cli.specs.Asking.{Errand, Reading, ReadsFor, AreThere, app_of}
+use Rattle.call_parts.specs.declared.words.Word.{Word}
+use Rattle.call_parts.specs.declared.words.Word.TheVariants.{Gen, Run, Show, Update, Trail, Audit, Make}
+use Rattle.call_parts.specs.Words.{file_name}
+use Rattle.call_parts.specs.Asking.{Errand, AreThere, app_of}
 use Rattle.kdcfile_update.specs.Updating.{Stored, update_most}
-use Rattle.utm_cli.specs.Doing.{Starts, Refuses, identity_of, tables_of, acts_of}
-
--- the words are this word with this BASE
-abbrev pub Request : List (List ℕ) → Word → List ℕ → Type 0
-Request words word base = request_of words ≡ Some (word, base)
-
--- the words ask for something, the texts that it reads are there, and this is what they say
-pub record Reads (words : List (List ℕ)) (room : RoomState) (said : Reading) : Type 0 where
-  pub word : Word
-  pub base : List ℕ
-  pub asked : Request words word base
-  pub reads : ReadsFor word base room said
-
--- there is no text of this name
-abbrev pub IsMissing : List ℕ → RoomState → Type 0
-IsMissing name room = text_of name room.texts ≡ None
-
--- a text that the word reads is not there
-abbrev pub Lacks : Word → List ℕ → RoomState → Type 0
-Lacks Gen base room = IsMissing (definition_name base) room ⊎ IsMissing (units_name base) room
-Lacks Run base room = IsMissing (definition_name base) room ⊎ IsMissing (units_name base) room ⊎ IsMissing (script_name base) room
-Lacks Show base room = IsMissing (definition_name base) room ⊎ IsMissing (units_name base) room
-Lacks Update base room = IsMissing (definition_name base) room ⊎ IsMissing (units_name base) room
-Lacks Trail base room = IsMissing (definition_name base) room ⊎ IsMissing (units_name base) room ⊎ IsMissing (script_name base) room
-Lacks Audit base room = IsMissing (definition_name base) room ⊎ IsMissing (units_name base) room ⊎ IsMissing (trail_name base) room
-Lacks (Make n) base room = ⊥
-
--- the words ask for something, and a text that it reads is not there
-pub record Misses (words : List (List ℕ)) (room : RoomState) : Type 0 where
-  pub word : Word
-  pub base : List ℕ
-  pub asked : Request words word base
-  pub not_there : Lacks word base room
+use Rattle.utm_cli.specs.Doing.{Starts, Refuses, tables_of, acts_of}
+use Rattle.call_parts.specs.Opening.{identity_of}
+use Rattle.call_parts.specs.Requests.{Request, Reads, AsksMake}
+use Rattle.call_parts.specs.Leaving.{LeavesUnmade}
 
 -- all acts were done over the store: their lines were sent, the file stands for the tables after them, and a stop leaves just it
 pub record RanOver (i : Identity) (acts : List Act) (t : TableRows) (a b : State) (lb : ℕ → List ℕ → List ℕ → Type 0) : Type 0 where
@@ -91,16 +61,6 @@ RanBy (Make n) i acts t a b lb = Said (bytes_of acts) a b
 -- all that was asked for was done, from what is stored
 abbrev pub Ran : Errand → Stored → State → State → (ℕ → List ℕ → List ℕ → Type 0) → Type 0
 Ran e s a b lb = RanBy e.word (identity_of e) (acts_of e s) (tables_of e s) a b lb
-
--- a file that a stop left unmade: it is empty, or stands for no content of any identity, and so for no tables
-abbrev pub IsUnmade : List ℕ → Type 0
-IsUnmade bytes = (bytes ≡ []) ⊎ IsNoImage bytes
-
--- the file was empty at the call, nothing was sent, and the file is unmade
-pub record LeavesUnmade (a : State) (image out : List ℕ) : Type 0 where
-  pub empty : a.holds ≡ []
-  pub silent : out ≡ a.sent
-  pub unmade : IsUnmade image
 
 -- what was sent and what a stop leaves are a cut of these acts over the store, from these tables
 abbrev pub IsCutOver : Identity → List Act → TableRows → State → List ℕ → List ℕ → Type 0
@@ -197,10 +157,6 @@ pub record RunsLawfully (app : Application) (t : TableRows) (script : List Comma
   pub serial : (done left : List Act) → trace app t script ≡ done ++ left → IsSerialCut app t script done
   pub runs : (runs : List StoppedRun) → AreRunsFrom app t runs → RunsKeepJobs app t runs
 
--- this name, or none, was handed to attach
-abbrev pub MayAttach : List ℕ → State → State → Type 0
-MayAttach name a b = (b.names ≡ a.names) ⊎ (b.names ≡ a.names ++ name ∷ [])
-
 -- this name was handed to attach; `audit` and `make` hand on none
 abbrev pub HandsOn : Word → List ℕ → State → State → Type 0
 HandsOn Gen name a b = b.names ≡ a.names ++ name ∷ []
@@ -228,14 +184,6 @@ pub record Call : Type 0 where
 
 abbrev pub call : List (List ℕ) → RoomState → State → Call
 call words room device = record { words = words; room = room; device = device }
-
--- the words are none of the forms
-abbrev pub AsksNothing : List (List ℕ) → Type 0
-AsksNothing words = request_of words ≡ None
-
--- the words are `make` with a number
-abbrev pub AsksMake : List (List ℕ) → Type 0
-AsksMake words = (n : ℕ) × ((operand : List ℕ) × Request words (Make n) operand)
 
 -- the room tells its texts, or the words are `make`, which reads none of them
 abbrev pub RoomTells : Call → Type 0
@@ -301,14 +249,6 @@ abbrev pub ForOwnTrail : Call → Type 0 → Type 0
 ForOwnTrail c P = IsTrue c.room.told → AuditsOwn (λ o. o ≡ None) c.words c.room → P
 
 -- ---- what became of it
-
--- a call of the disk or of the line failed
-abbrev pub CallFailed : (a b : State) → Type 0
-CallFailed a b = Rose a.disk_faults b.disk_faults ⊎ Rose a.line_faults b.line_faults
-
--- a front of this line was sent, and nothing else
-abbrev pub SaysPart : List ℕ → (a b : State) → Type 0
-SaysPart line a b = IsTrue a.told → SaidPart line a b
 
 -- the texts were refused with this status, and the line of their fault was sent
 abbrev pub SaysRefusal : Call → (code : ℕ) → State → Type 0

@@ -1,32 +1,30 @@
 -- The words in which the top call over two disks promises.
-use Rattle.std.specs.Prelude.{◌≡◌, ⊤, ◌⊎◌, ◌≤◌, ℕ, Bool, IsTrue, List, [], ◌∷◌, ◌++◌, take, codes, Option, Some, IsSome, Ok, Err}
+use Rattle.std.specs.Prelude.{◌≡◌, ⊤, ◌⊎◌, ℕ, Bool, IsTrue, List, [], ◌∷◌, ◌++◌, take, Option, Some, IsSome, Ok, Err}
 use Rattle.kd_device.specs.Device.{Rose}
 use Rattle.kd_device.specs.Room.{RoomState}
-use Rattle.kd_records.specs.declared.content.Content.{Content}
 use Rattle.kd_records.specs.Identity.{Identity}
-use Rattle.kd_device.specs.Twin.{Both, disk_of}
+use Rattle.kd_device.specs.Twin.{Both}
 use Rattle.kd_device.specs.declared.half.Half.{Half}
-use Rattle.kd_device.specs.declared.half.Half.TheVariants.{First, Second}
 use Rattle.kdcs_types.specs.declared.act.Act.{Act}
 use Rattle.kdcs_types.specs.Tables.{TableRows}
 use Rattle.abstract_monitor.specs.Trace.{bytes_of, tables_after}
 use Rattle.laws_of_states.specs.Cut.{SentBy}
-use Rattle.kdcfile_copies.specs.Copies.{AtMost, Below, IsCopyOf, IsNoCopy}
 use Rattle.kdcfile_copies.specs.Beside.{file_of}
 use Rattle.kdcfile_double.specs.Mended.{BothRest}
-use Rattle.kdcfile_double.specs.Opening.{AreEmpty, SameFiles}
-use Rattle.kdcfile_double.specs.Twice.{RoseAt, SameFaultsAt}
+use Rattle.kdcfile_double.specs.Twice.{RoseAt}
 use Rattle.refusals.specs.Lines.{file_line}
 use Rattle.refusals.specs.Statuses.{IsOneOf, status_of_file}
 use Rattle.refusals.specs.declared.error.FileRefusal.{FileRefusal}
 use Rattle.refusals.specs.declared.error.Refusal.{Refusal}
 use Rattle.twin_run.specs.Running.{CountsAs, IsCopyOfTables, IsLastCopy, with_copies}
-use Rattle.utm_cli.specs.Asking.{Errand, Reading, ReadsForTwo}
-use Rattle.utm_cli.specs.Promise.{AsksMake, AsksNothing, AuditsOwn, Request}
-use Rattle.utm_cli.specs.Words.{file_name}
-use Rattle.utm_cli.specs.declared.words.Word.{Word}
-use Rattle.utm_cli.specs.declared.words.Word.TheVariants.{Gen, Run, Show, Update, Trail, Audit, Make}
-use Rattle.utm_cli.specs.DoingTwo.{RefusesTwo, StartsTwo, acts_two, identity_of_two}
+use Rattle.call_parts.specs.Asking.{Errand}
+use Rattle.call_parts.specs.Requests.{Request, ReadsTwo}
+use Rattle.utm_cli.specs.Promise.{AuditsOwn}
+use Rattle.call_parts.specs.declared.words.Word.{Word}
+use Rattle.call_parts.specs.declared.words.Word.TheVariants.{Gen, Run, Show, Update, Trail, Audit, Make}
+use Rattle.utm_cli.specs.DoingTwo.{RefusesTwo, StartsTwo, acts_two}
+use Rattle.call_parts.specs.Opening.{identity_of_two}
+use Rattle.call_parts.specs.LeavingTwo.{WasBehind, LeavesUnmadeTwo, SaidTwo, FaultsTwo, MayAttachTwo, AttachesBoth, SameNamesTwo}
 
 -- ---- a call
 
@@ -38,17 +36,6 @@ pub record TwinCall : Type 0 where
 
 abbrev pub twin_call : List (List ℕ) → RoomState → Both → TwinCall
 twin_call words room twin = record { words = words; room = room; twin = twin }
-
--- the words ask for something over a definition of two copies, the texts that it reads are there, and this is what they say
-pub record ReadsTwo (words : List (List ℕ)) (room : RoomState) (said : Reading) : Type 0 where
-  pub word : Word
-  pub base : List ℕ
-  pub asked : Request words word base
-  pub reads : ReadsForTwo word base room said
-
--- the words are none of the forms, or `make`, or the texts are told and do not define two copies
-abbrev pub IsSingleCall : List (List ℕ) → RoomState → Type 0
-IsSingleCall words room = AsksNothing words ⊎ AsksMake words ⊎ (IsTrue room.told × ((said : Reading) → ReadsTwo words room said → ⊥))
 
 -- what holds of the errand over two copies that the words and the texts ask for
 abbrev pub ForTwoErrand : TwinCall → (Errand → Type 0) → Type 0
@@ -86,11 +73,6 @@ ForTwoRefusal c P = IsTrue c.room.told → (why : Refusal) → ReadsTwo c.words 
 
 -- ---- a cut
 
--- at the call the half was no copy or had the lesser sequence, and the other half was a copy; of two copies of one sequence that differ the second counts as the lesser
-abbrev pub WasBehind : Half → Both → Type 0
-WasBehind First a = (i : Identity) × (n : ℕ) × (x : Content) × IsCopyOf i n x a.second.holds × Below n a.first.holds
-WasBehind Second a = (i : Identity) × (n : ℕ) × (x : Content) × IsCopyOf i n x a.first.holds × AtMost n a.second.holds × (IsCopyOf i n x a.second.holds → ⊥)
-
 -- some first acts were done, with the lines of a half that was behind and of one on which a call failed; files have the tables after them, and these bytes were sent beyond those before
 pub record IsCutOfTwo (keeps : TableRows → Type 0) (t : TableRows) (acts : List Act) (a b : Both) (out : List ℕ) : Type 0 where
   pub mended : Option Half
@@ -104,13 +86,6 @@ pub record IsCutOfTwo (keeps : TableRows → Type 0) (t : TableRows) (acts : Lis
   pub whole : with_copies mended acts lost ≡ done ++ left
   pub files : keeps (tables_after t done)
   pub bytes : SentBy done left since
-
--- both files were empty at the call, nothing was sent, and neither is a copy yet
-pub record LeavesUnmadeTwo (a : Both) (c d out : List ℕ) : Type 0 where
-  pub empty : AreEmpty a.first.holds a.second.holds
-  pub silent : out ≡ a.sent
-  pub first_none : IsNoCopy c
-  pub second_none : IsNoCopy d
 
 -- what was sent and the copy that counts are a cut of the acts; and where a byte was sent, so is each half by itself on which no call failed
 pub record IsStopOfRun (i : Identity) (t : TableRows) (acts : List Act) (a b : Both) (c d out : List ℕ) : Type 0 where
@@ -150,11 +125,6 @@ pub record RanTwo (i : Identity) (t : TableRows) (acts : List Act) (a b : Both) 
   pub counts_after : (c d : List ℕ) → lb b.moment c d b.sent → CountsAs i (tables_after t acts) c d
   pub copies : (half : Half) → (lost ≡ Some half) ⊎ IsLastCopy i half (tables_after t acts) a b lb
 
--- both files are as they were, and these bytes were sent
-pub record SaidTwo (bytes : List ℕ) (a b : Both) : Type 0 where
-  pub files : SameFiles a b
-  pub sent : b.sent ≡ a.sent ++ bytes
-
 abbrev pub EndsBy : Word → Identity → TableRows → List Act → (a b : Both) → (lb : ℕ → List ℕ → List ℕ → List ℕ → Type 0) → Type 0
 EndsBy Gen i t acts a b lb = RanTwo i t acts a b lb
 EndsBy Run i t acts a b lb = RanTwo i t acts a b lb
@@ -170,42 +140,7 @@ EndsTwo e a b lb = (t : TableRows) × StartsTwo e a t × (IsTrue a.told → Ends
 
 -- ---- faults
 
--- a call of the line failed, or of both halves, or of one half before a byte was sent
-abbrev pub FailsTwo : (a b : Both) → Type 0
-FailsTwo a b =
-    Rose a.line_faults b.line_faults ⊎ (RoseAt First a b × RoseAt Second a b) ⊎ ((RoseAt First a b ⊎ RoseAt Second a b) × (b.sent ≡ a.sent))
-
--- some call failed
-abbrev pub FaultsTwo : (a b : Both) → Type 0
-FaultsTwo a b = Rose a.line_faults b.line_faults ⊎ RoseAt First a b ⊎ RoseAt Second a b
-
--- what calls failed is no fault of the whole: on some half none did, and none of the line, unless one on a half did
-pub record FineTwo (a b : Both) : Type 0 where
-  pub spared : (half : Half) × SameFaultsAt half a b
-  pub line : (b.line_faults ≡ a.line_faults) ⊎ ((half : Half) × RoseAt half a b)
-
 -- ---- names
-
--- the name of the second half's file
-abbrev pub second_name : List ℕ → List ℕ
-second_name base = base ++ codes ".KDCB"
-
-abbrev pub name_of : Half → List ℕ → List ℕ
-name_of First base = file_name base
-name_of Second base = second_name base
-
--- this half's name, or none, was handed to attach
-abbrev pub MayAttachTwo : List ℕ → (a b : Both) → Type 0
-MayAttachTwo base a b =
-    (half : Half) → ((disk_of half b).names ≡ (disk_of half a).names) ⊎ ((disk_of half b).names ≡ (disk_of half a).names ++ name_of half base ∷ [])
-
--- each half's name was handed to attach
-abbrev pub AttachesBoth : List ℕ → (a b : Both) → Type 0
-AttachesBoth base a b = (half : Half) → (disk_of half b).names ≡ (disk_of half a).names ++ name_of half base ∷ []
-
--- no name was handed to attach
-abbrev pub SameNamesTwo : (a b : Both) → Type 0
-SameNamesTwo a b = (half : Half) → (disk_of half b).names ≡ (disk_of half a).names
 
 -- the names that a word hands to attach; `update` and `audit` hand on none
 abbrev pub AttachesTwoBy : Word → List ℕ → (a b : Both) → Type 0
@@ -227,20 +162,7 @@ MayAttachTwoBy Trail base a b = MayAttachTwo base a b
 MayAttachTwoBy Audit base a b = SameNamesTwo a b
 MayAttachTwoBy (Make n) base a b = SameNamesTwo a b
 
--- what no call changes or lowers
-pub record FrameTwin (a b : Both) : Type 0 where
-  pub told : b.told ≡ a.told
-  pub first_faults : a.first.disk_faults ≤ b.first.disk_faults
-  pub second_faults : a.second.disk_faults ≤ b.second.disk_faults
-  pub line_faults : a.line_faults ≤ b.line_faults
-  pub moment : a.moment ≤ b.moment
-
 -- ---- a refusal
-
--- a front of this line was sent, and nothing else
-pub record SaysPartTwo (line : List ℕ) (a b : Both) : Type 0 where
-  pub files : SameFiles a b
-  pub front : (n : ℕ) × (b.sent ≡ a.sent ++ take n line)
 
 -- two files are refused, or the trail does not hold, and this is the status; the line that says why was sent
 abbrev pub SaysWhyTwo : Errand → (code : ℕ) → (a b : Both) → Type 0

@@ -4,36 +4,19 @@ ghost use Rattle.kd_device.specs.Room.{RoomState};
 ghost use Rattle.kdcfile_update.specs.Updating.{Stored};
 ghost use Rattle.kdcs_types.specs.Tables.{TableRows, IsSortedTables};
 ghost use Rattle.laws_of_states.specs.Suits.{Suits};
-ghost use Rattle.utm_cli.specs.{Asking.{CanRun, Errand, TextsCanRun, TextsOfTwoCanRun, app_of}, Doing.{Starts, tables_of}, Promise.{Reads, RunsLawfully}};
+ghost use Rattle.call_parts.specs.Asking.{CanRun, Errand, app_of};
+ghost use Rattle.utm_cli.specs.Doing.{Starts, tables_of};
+ghost use Rattle.call_parts.specs.Requests.{Reads};
+ghost use Rattle.utm_cli.specs.Promise.{RunsLawfully};
 
 use application_read::generations_are_sound;
-use audit_trail::says_what_its_lines_say;
+use call_parts::texts_can_run;
 use kdcfile_update::taken_tables_suit;
 use laws_of_runs::facts_hold_along_every_script;
 use laws_of_runs::laws_of_access::{locks_make_the_rule, locks_make_the_trace, runs_keep_access};
 use laws_of_runs::laws_of_jobs::{
     cuts_are_serial, cuts_resume, jobs_are_done_once, runs_are_lawful, runs_keep_jobs,
 };
-use script_read::commands_are_said;
-
-/// Texts that ask for something make an application, with a script of its names or a trail that can be audited. It does
-/// nothing.
-pub(crate) fn texts_can_run()
-    ensures { TextsCanRun }
-{
-    generations_are_sound();
-    commands_are_said();
-    says_what_its_lines_say();
-}
-
-/// Texts of two copies that ask for something do so too. It does nothing.
-pub(crate) fn texts_of_two_can_run()
-    ensures { TextsOfTwoCanRun }
-{
-    generations_are_sound();
-    commands_are_said();
-    says_what_its_lines_say();
-}
 
 /// From tables that suit what texts generate, each step of the script is lawful, begins only services that the rule of
 /// locks and keys allows, and keeps jobs; each cut of it can be gone on from and is stored by a serial run; and runs

@@ -9,18 +9,11 @@
 //! pair and of each half by itself.
 #![tactic(auto)]
 
-mod errand;
-mod error;
-mod generation_report;
 mod lawful;
 mod made_run;
-mod opening;
-mod reading;
-mod refusing;
 mod run;
 mod top;
 mod twin;
-mod words;
 
 pub use top::utm;
 pub use twin::utm_twin;

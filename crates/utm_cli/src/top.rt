@@ -1,13 +1,11 @@
 //! The top call over one disk: what the words ask for is done, and answered as a status.
 ghost use Rattle.std.specs.{Prelude.{map}, String.{string_bytes}};
-ghost use Rattle.utm_cli.specs.{Answers.{AnswersOne}, Promise.{call}};
+ghost use Rattle.utm_cli.specs.Answers.{AnswersOne};
+ghost use Rattle.utm_cli.specs.Promise.{call};
 
-use crate::errand::Asked;
 use crate::lawful::scripts_run_lawfully;
-use crate::reading::read_texts;
-use crate::refusing::{Cause, refuse_for};
 use crate::run::run;
-use crate::words::request_of;
+use call_parts::{Asked, Cause, read_texts, refuse_for, request_of};
 use kd_device::{Device, Room};
 use refusals::{Refusal, Status, TextError};
 use std::alloc::Global;

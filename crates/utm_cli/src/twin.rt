@@ -5,7 +5,6 @@
 
 mod beside;
 mod double;
-mod opening;
 mod top;
 
 pub use top::utm_twin;

@@ -5,7 +5,7 @@ use Rattle.kd_device.specs.Twin.{Both, disk_of, half_state}
 use Rattle.kd_device.specs.declared.half.Half.{Half}
 use Rattle.kd_device.specs.declared.half.Half.TheVariants.{First}
 use Rattle.kdcfile_double.specs.Opening.{SameFiles}
-use Rattle.utm_cli.specs.PromiseTwo.{FineTwo, FrameTwin, MayAttachTwo, SaidTwo, SaysPartTwo}
+use Rattle.call_parts.specs.LeavingTwo.{FineTwo, FrameTwin, MayAttachTwo, SaidTwo, SaysPartTwo}
 
 -- ---- a line after files that stay
 

@@ -10,18 +10,20 @@ use Rattle.abstract_monitor.specs.Trace.{bytes_of}
 use Rattle.std.proofs.lemmas.List.{append-nil}
 use Rattle.refusals.specs.declared.error.FileRefusal.{FileRefusal}
 use Rattle.audit_trail.specs.declared.entry.Trail.{Trail as Kept}
-use Rattle.utm_cli.specs.Asking.{Errand, audit_errand, looking_errand, looking_word, storing_word}
+use Rattle.call_parts.specs.Asking.{Errand, audit_errand, looking_errand, looking_word, storing_word}
 use Rattle.utm_cli.specs.Parts.{looked_by}
-use Rattle.utm_cli.specs.declared.errand.Looking.{Looking}
-use Rattle.utm_cli.specs.declared.errand.Looking.TheVariants as looking
-use Rattle.utm_cli.specs.declared.errand.Storing.{Storing}
-use Rattle.utm_cli.specs.declared.errand.Storing.TheVariants as storing
-use Rattle.utm_cli.specs.declared.errand.Work.{Work}
+use Rattle.call_parts.specs.declared.errand.Looking.{Looking}
+use Rattle.call_parts.specs.declared.errand.Looking.TheVariants as looking
+use Rattle.call_parts.specs.declared.errand.Storing.{Storing}
+use Rattle.call_parts.specs.declared.errand.Storing.TheVariants as storing
+use Rattle.call_parts.specs.declared.errand.Work.{Work}
 use Rattle.utm_cli.specs.Doing.{HoldsAll, held_line, own, trail_of}
-use Rattle.utm_cli.specs.declared.words.Word.{Word}
-use Rattle.utm_cli.specs.declared.words.Word.TheVariants.{Gen, Run, Show, Update, Trail, Audit, Make}
-use Rattle.utm_cli.specs.DoingTwo.{KeepsTwo, OpensTwo, OpeningRefusesTwo, RefusesTwoBy, RefusesTwo, StartsTwoBy, StartsTwo, acts_two, identity_of_two}
-use Rattle.utm_cli.specs.PromiseTwo.{AttachesBoth, AttachesTwoBy, EndsBy, IsFrontOfTwo, IsStopBy, IsStopOfRun, MayAttachTwo, MayAttachTwoBy, RanTwo, SaidTwo, SameNamesTwo, TellsTwo}
+use Rattle.call_parts.specs.declared.words.Word.{Word}
+use Rattle.call_parts.specs.declared.words.Word.TheVariants.{Gen, Run, Show, Update, Trail, Audit, Make}
+use Rattle.utm_cli.specs.DoingTwo.{KeepsTwo, RefusesTwoBy, RefusesTwo, StartsTwoBy, StartsTwo, acts_two}
+use Rattle.call_parts.specs.Opening.{OpensTwo, OpeningRefusesTwo, identity_of_two}
+use Rattle.call_parts.specs.LeavingTwo.{AttachesBoth, MayAttachTwo, SaidTwo, SameNamesTwo}
+use Rattle.utm_cli.specs.PromiseTwo.{AttachesTwoBy, EndsBy, IsFrontOfTwo, IsStopBy, IsStopOfRun, MayAttachTwoBy, RanTwo, TellsTwo}
 use Rattle.utm_cli.proofs.twin.Answered.{names_then}
 
 -- what holds of both words that keep copies

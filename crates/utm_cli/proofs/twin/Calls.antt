@@ -18,25 +18,28 @@ use Rattle.refusals.specs.declared.error.Refusal.{Refusal}
 use Rattle.trail_run.specs.Auditing.{TrailsAreJudgedOnce}
 use Rattle.trail_run.specs.OwnAudits.{OwnTrailsHold}
 use Rattle.utm_cli.specs.Answers.{AnswersOne, AnswersTwo}
-use Rattle.utm_cli.specs.Asking.{AreThere, Errand, Reading, ReadsForTwo, TellsTexts, app_of}
-use Rattle.utm_cli.specs.AskingLaws.{misses_of, there_not_missed}
-use Rattle.utm_cli.specs.Beside.{SendsRefusalTwo}
+use Rattle.call_parts.specs.Asking.{AreThere, Errand, Reading, ReadsForTwo, TellsTexts, app_of}
+use Rattle.call_parts.specs.AskingLaws.{misses_of, there_not_missed}
+use Rattle.call_parts.specs.Beside.{SendsRefusalTwo}
 use Rattle.utm_cli.specs.Doing.{AuditRefuses}
 use Rattle.utm_cli.specs.DoingTwo.{KeepsTwo, RefusesTwoBy, RefusesTwo, StartsTwo}
 use Rattle.utm_cli.specs.Parts.{LooksBytes}
 use Rattle.utm_cli.specs.PartsTwo.{EndsErrandTwo}
-use Rattle.utm_cli.specs.Promise.{AsksNothing, CallFailed, Misses, Request, RunsLawfully, call}
-use Rattle.utm_cli.specs.PromiseTwo.{AttachesTwoBy, EndsTwo, FaultsTwo, FrameTwin, IsSingleCall, MayAttachTwoBy, ReadsTwo, SaidTwo, SaysPartTwo}
+use Rattle.call_parts.specs.Requests.{AsksNothing, Misses, Request, IsSingleCall, ReadsTwo}
+use Rattle.call_parts.specs.Leaving.{CallFailed}
+use Rattle.utm_cli.specs.Promise.{RunsLawfully, call}
+use Rattle.utm_cli.specs.PromiseTwo.{AttachesTwoBy, EndsTwo, MayAttachTwoBy}
+use Rattle.call_parts.specs.LeavingTwo.{FaultsTwo, FrameTwin, SaidTwo, SaysPartTwo}
 use Rattle.utm_cli.specs.PromiseTwo.{SaysWhyTwo, StopsTwo, TellsTwo, twin_call}
-use Rattle.utm_cli.specs.declared.words.Word.{Word}
-use Rattle.utm_cli.specs.declared.words.Word.TheVariants.{Audit, Make}
-use Rattle.utm_cli.specs.Words.{IsOfBase, usage_line}
+use Rattle.call_parts.specs.declared.words.Word.{Word}
+use Rattle.call_parts.specs.declared.words.Word.TheVariants.{Audit, Make}
+use Rattle.call_parts.specs.Words.{IsOfBase, usage_line}
 use Rattle.utm_cli.proofs.Answering.{StopsHere, not_early, of_texts, run_other, some_form, texts_is, texts_other, usage_call}
 use Rattle.utm_cli.proofs.Audited.{own_errand, own_not_refused, own_reading_two}
 use Rattle.utm_cli.proofs.twin.Answered.{fine_then, none_failed, same_frame}
 use Rattle.utm_cli.proofs.twin.ByWord.{none_attached}
 use Rattle.utm_cli.proofs.twin.Stays.{none_said, stays_same, stays_stops}
-use Rattle.utm_cli.proofs.twin.beside.OneHalf.{files_two, first_refusal, names_two}
+use Rattle.call_parts.proofs.OneHalf.{files_two, first_refusal, names_two}
 
 -- ---- statuses
 

@@ -17,23 +17,25 @@ use Rattle.kdcfile_double.specs.declared.error.TwinOpenError.{TwinOpenError}
 use Rattle.kdcfile_double.specs.declared.error.TwinOpenError.TheVariants as opening
 use Rattle.kdcfile_copies.specs.Beside.{LeavesFrontBoth, SaidBoth, SameDisk}
 use Rattle.twin_run.specs.Running.{FailsTwice, RanTwice, WithinTwice}
-use Rattle.utm_cli.specs.Asking.{Errand}
-use Rattle.utm_cli.specs.declared.words.Word.{Word}
+use Rattle.call_parts.specs.Asking.{Errand}
+use Rattle.call_parts.specs.declared.words.Word.{Word}
 use Rattle.refusals.specs.declared.error.FileRefusal.{FileRefusal}
 use Rattle.refusals.specs.declared.error.FileRefusal.TheVariants as why
-use Rattle.utm_cli.specs.declared.error.CallError.{CallError}
-use Rattle.utm_cli.specs.declared.error.CallError.TheVariants.{Refused, Failed, Memory}
-use Rattle.utm_cli.specs.Causes.{of_device, of_twin}
-use Rattle.utm_cli.specs.TwoAnswersLaws.{started_two_once}
-use Rattle.utm_cli.specs.DoingTwo.{KeepsTwo, OpensTwo, OpeningRefusesTwo, RefusesTwo, StartsTwo, acts_two, identity_of_two}
-use Rattle.utm_cli.specs.OpeningTwo.{LeavesOpeningTwo, StaysAsItIs}
+use Rattle.call_parts.specs.declared.error.CallError.{CallError}
+use Rattle.call_parts.specs.declared.error.CallError.TheVariants.{Refused, Failed, Memory}
+use Rattle.call_parts.specs.Causes.{of_device, of_twin}
+use Rattle.call_parts.specs.TwoAnswersLaws.{started_two_once}
+use Rattle.utm_cli.specs.DoingTwo.{KeepsTwo, RefusesTwo, StartsTwo, acts_two}
+use Rattle.call_parts.specs.Opening.{OpensTwo, OpeningRefusesTwo, identity_of_two}
+use Rattle.call_parts.specs.OpeningTwo.{LeavesOpeningTwo, StaysAsItIs}
 use Rattle.utm_cli.specs.Parts.{LooksBytes}
 use Rattle.utm_cli.specs.PartsTwo.{DoesTwo}
-use Rattle.utm_cli.specs.PromiseTwo.{AttachesBoth, AttachesTwoBy, FineTwo, FrameTwin, IsFrontOfTwo, IsStopBy, MayAttachTwo, MayAttachTwoBy, SaidTwo, TellsTwo, WasBehind}
+use Rattle.call_parts.specs.LeavingTwo.{AttachesBoth, FineTwo, FrameTwin, MayAttachTwo, SaidTwo, WasBehind}
+use Rattle.utm_cli.specs.PromiseTwo.{AttachesTwoBy, IsFrontOfTwo, IsStopBy, MayAttachTwoBy, TellsTwo}
 use Rattle.utm_cli.proofs.twin.ByWord.{SendsBeside, attached_then_none, kept_attaches, kept_ends, kept_is_no_trail, kept_may, kept_opens}
 use Rattle.utm_cli.proofs.twin.ByWord.{kept_refuses, kept_starts, kept_stop, kept_told, none_attached, tells_two}
 use Rattle.utm_cli.proofs.twin.Keeps.{attached_then, faults_of_run, fails_of_run, fine_of_run, frames_then, ran_from, stop_of_run}
-use Rattle.utm_cli.proofs.HandedOn.{acts_failed, device_refuses_nothing, given, handed, no_cause, opening_failed, same_reason}
+use Rattle.call_parts.proofs.HandedOn.{acts_failed, device_refuses_nothing, given, handed, no_cause, opening_failed, same_reason}
 use Rattle.utm_cli.proofs.twin.Answered.{fine_then, same_frame}
 use Rattle.utm_cli.proofs.twin.Stays.{front_after, said_after, same_files, silent_stop, stays_same, stays_stops}
 

@@ -11,8 +11,9 @@ use Rattle.abstract_monitor.specs.Trace.{bytes_of}
 use Rattle.kdcfile_double.specs.Twice.{FineTwice, IsInUse, IsOpen, RoseAt, SameFaultsAt, Twice}
 use Rattle.kdcfile_copies.specs.Beside.{file_of}
 use Rattle.twin_run.specs.Running.{CountsAs, FailsTwice, FrameTwice, IsCopyOfTables, IsCutTwice, RanTwice, WithinTwice, with_copies}
-use Rattle.utm_cli.specs.OpeningTwo.{LeavesOpeningTwo}
-use Rattle.utm_cli.specs.PromiseTwo.{AttachesBoth, FailsTwo, FaultsTwo, FineTwo, FrameTwin, IsCutOfTwo, IsStopOfRun, LeavesUnmadeTwo, RanTwo, WasBehind}
+use Rattle.call_parts.specs.OpeningTwo.{LeavesOpeningTwo}
+use Rattle.call_parts.specs.LeavingTwo.{AttachesBoth, FailsTwo, FaultsTwo, FineTwo, FrameTwin, LeavesUnmadeTwo, WasBehind}
+use Rattle.utm_cli.specs.PromiseTwo.{IsCutOfTwo, IsStopOfRun, RanTwo}
 use Rattle.utm_cli.proofs.twin.Stays.{silent_stop}
 
 -- ---- counts of faults only rise

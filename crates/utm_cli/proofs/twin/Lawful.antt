@@ -9,13 +9,14 @@ use Rattle.laws_of_states.specs.EmptyTablesLaws.{empty_suit}
 use Rattle.laws_of_states.specs.Suits.{Suits}
 use Rattle.audit_trail.specs.Facts.{IsTrail}
 use Rattle.kdcfile_update.specs.Updating.{Stored}
-use Rattle.utm_cli.specs.Asking.{Errand, CanBeAudited, CanRun, TextsOfTwoCanRun, app_of}
+use Rattle.call_parts.specs.Asking.{Errand, CanBeAudited, CanRun, TextsOfTwoCanRun, app_of}
 use Rattle.utm_cli.specs.Promise.{RunsLawfully}
-use Rattle.utm_cli.specs.Words.{audits}
-use Rattle.utm_cli.specs.declared.words.Word.{Word}
-use Rattle.utm_cli.specs.declared.words.Word.TheVariants.{Gen, Run, Show, Update, Trail, Audit, Make}
-use Rattle.utm_cli.specs.DoingTwo.{OpensTwo, StartsTwo, StartsTwoBy}
-use Rattle.utm_cli.specs.PromiseTwo.{ReadsTwo}
+use Rattle.call_parts.specs.Words.{audits}
+use Rattle.call_parts.specs.declared.words.Word.{Word}
+use Rattle.call_parts.specs.declared.words.Word.TheVariants.{Gen, Run, Show, Update, Trail, Audit, Make}
+use Rattle.call_parts.specs.Opening.{OpensTwo}
+use Rattle.utm_cli.specs.DoingTwo.{StartsTwo, StartsTwoBy}
+use Rattle.call_parts.specs.Requests.{ReadsTwo}
 
 opened_two : (e : Errand) (a : Both) (t : TableRows) → OpensTwo e a t → IsSortedTables t × Suits e.application.generation t
 opened_two e a t (inl (empty, is)) = (subst IsSortedTables (sym is) empty_sorted, subst (Suits e.application.generation) (sym is) (empty_suit e.application.generation))

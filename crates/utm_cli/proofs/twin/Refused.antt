@@ -7,13 +7,14 @@ use Rattle.kdcs_types.specs.Tables.{TableRows}
 use Rattle.refusals.specs.declared.error.FileRefusal.{FileRefusal}
 use Rattle.refusals.specs.declared.error.FileRefusal.TheVariants as file
 use Rattle.trail_run.specs.Auditing.{TrailsAreJudgedOnce}
-use Rattle.utm_cli.specs.Asking.{Errand}
+use Rattle.call_parts.specs.Asking.{Errand}
 use Rattle.utm_cli.specs.AuditLaws.{differs_once, holds_or_differs}
 use Rattle.utm_cli.specs.Doing.{own}
-use Rattle.utm_cli.specs.declared.words.Word.{Word}
-use Rattle.utm_cli.specs.declared.words.Word.TheVariants.{Gen, Run, Show, Update, Trail, Audit, Make}
-use Rattle.utm_cli.specs.TwoAnswersLaws.{AnswersOfTwoExcludeEachOther, answers_of_two_exclude_each_other}
-use Rattle.utm_cli.specs.DoingTwo.{OpensTwo, OpeningRefusesTwo, RefusesTwoBy, RefusesTwo, StartsTwoBy, StartsTwo}
+use Rattle.call_parts.specs.declared.words.Word.{Word}
+use Rattle.call_parts.specs.declared.words.Word.TheVariants.{Gen, Run, Show, Update, Trail, Audit, Make}
+use Rattle.call_parts.specs.TwoAnswersLaws.{AnswersOfTwoExcludeEachOther, answers_of_two_exclude_each_other}
+use Rattle.call_parts.specs.Opening.{OpensTwo, OpeningRefusesTwo}
+use Rattle.utm_cli.specs.DoingTwo.{RefusesTwoBy, RefusesTwo, StartsTwoBy, StartsTwo}
 
 module _ (once : TrailsAreJudgedOnce) (e : Errand) (a : Both) where
   answer : AnswersOfTwoExcludeEachOther e.application.generation e.fingerprint a.first.holds a.second.holds

@@ -1,5 +1,5 @@
 -- The report and the script of an errand, over copies that were opened.
-use Rattle.std.proofs.Common.{◌≡◌, ◌≤◌, ◌+◌, ℕ, List, refl, sym, ap, subst, ◌∙◌, arith}
+use Rattle.std.proofs.Common.{◌≡◌, ◌≤◌, ◌+◌, ℕ, List, refl, sym, ap, subst, ◌∙◌}
 use Rattle.std.specs.Prelude.{sum_by, ◌^◌}
 use Rattle.kd_records.specs.Identity.{Identity}
 use Rattle.kd_device.specs.Twin.{Both}
@@ -22,14 +22,16 @@ use Rattle.kdcfile_double.specs.Opening.{KeepsTablesTwice, identity_twice}
 use Rattle.kdcfile_double.specs.Twice.{Twice, identity_of}
 use Rattle.twin_run.specs.Keeping.{one_more}
 use Rattle.twin_run.specs.Running.{IsRunningTwice, RanTwice, WithinTwice}
-use Rattle.utm_cli.specs.Asking.{CanRun, Errand, app_of}
-use Rattle.utm_cli.specs.Report.{report}
+use Rattle.call_parts.specs.Asking.{CanRun, Errand, app_of}
+use Rattle.call_parts.specs.Report.{report}
 use Rattle.utm_cli.proofs.Doing.{core_is, durable_is as durable_begun}
-use Rattle.utm_cli.specs.declared.words.Word.{Word}
-use Rattle.utm_cli.specs.declared.words.Word.TheVariants.{Gen, Run}
+use Rattle.call_parts.specs.declared.words.Word.{Word}
+use Rattle.call_parts.specs.declared.words.Word.TheVariants.{Gen, Run}
 use Rattle.device_acts.specs.Stands.{limits_of}
 use Rattle.utm_cli.specs.Doing.{acts_by, own}
-use Rattle.utm_cli.specs.DoingTwo.{acts_two, identity_of_two}
+use Rattle.utm_cli.specs.DoingTwo.{acts_two}
+use Rattle.call_parts.specs.Opening.{identity_of_two}
+use Rattle.utm_cli.proofs.Turns.{turns_from}
 
 -- the copies were made with the limits of the generation, with one page more
 pub made_for : (g : Generated) (fingerprint : List ℕ) (i : Identity) → i ≡ identity_twice g fingerprint → (l : StoreLimits) → l ≡ limits_of g → i ≡ one_more (identity_with l fingerprint)
@@ -75,7 +77,7 @@ module _ (e : Errand) (t : TableRows) (core : CoreValue) (application : core.app
   }
 
   pub core_turns : CanRun e → core.steps + sum_by turns_of e.commands ≤ 10 ^ 18
-  core_turns can = let turns = can.turns in omega (arith, steps, turns)
+  core_turns can = turns_from e core.steps steps e.commands refl can
 
   module _ (run : e.word ≡ Run) where
     script_is : acts_of (history core.application core.state e.commands) ≡ acts_two e t

@@ -14,12 +14,14 @@ use Rattle.kdcfile_double.specs.Mended.{BothRest}
 use Rattle.kdcfile_double.specs.Opening.{SameFiles, Unchanged}
 use Rattle.kdcfile_copies.specs.Beside.{LeavesFrontBoth, SaidBoth, SameDisk}
 use Rattle.twin_run.specs.Running.{CountsAs, with_copies}
-use Rattle.utm_cli.specs.Asking.{Errand}
-use Rattle.utm_cli.specs.declared.words.Word.{Word}
-use Rattle.utm_cli.specs.declared.words.Word.TheVariants.{Gen, Run, Show, Update, Trail, Audit, Make}
-use Rattle.utm_cli.specs.DoingTwo.{OpensTwo, StartsTwoBy, StartsTwo, acts_two, identity_of_two}
-use Rattle.utm_cli.specs.OpeningTwo.{StaysAsItIs}
-use Rattle.utm_cli.specs.PromiseTwo.{IsCutOfTwo, IsFrontOfTwo, IsStopBy, IsStopOfRun, LeavesUnmadeTwo, SaidTwo, SaysPartTwo, StopsTwo}
+use Rattle.call_parts.specs.Asking.{Errand}
+use Rattle.call_parts.specs.declared.words.Word.{Word}
+use Rattle.call_parts.specs.declared.words.Word.TheVariants.{Gen, Run, Show, Update, Trail, Audit, Make}
+use Rattle.call_parts.specs.Opening.{OpensTwo, identity_of_two}
+use Rattle.utm_cli.specs.DoingTwo.{StartsTwoBy, StartsTwo, acts_two}
+use Rattle.call_parts.specs.OpeningTwo.{StaysAsItIs}
+use Rattle.utm_cli.specs.PromiseTwo.{IsCutOfTwo, IsFrontOfTwo, IsStopBy, IsStopOfRun, StopsTwo}
+use Rattle.call_parts.specs.LeavingTwo.{LeavesUnmadeTwo, SaidTwo, SaysPartTwo}
 
 -- nothing was done
 pub cut_none : (keeps : TableRows → Type 0) (t : TableRows) (acts : List Act) (a b : Both) (out : List ℕ) → out ≡ a.sent → keeps t → IsCutOfTwo keeps t acts a b out

@@ -11,13 +11,13 @@ ghost use Rattle.device_acts.specs.declared.warm_start.error.OpenError.TheVarian
 ghost use Rattle.monitor_core.specs.CoreSteps.{durable_of, turns_of};
 ghost use Rattle.device_run.specs.Running.{IsRunning};
 ghost use Rattle.device_acts.specs.Stands.{KeepsTables, identity_for};
-ghost use Rattle.utm_cli.specs.MadeReport.{report_by, report_of};
+ghost use Rattle.call_parts.specs.MadeReport.{report_by, report_of};
 
-use crate::made_run::lines::report;
 use crate::made_run::stored::stored_tables;
 use abstract_monitor::Command;
 use application_types::generation::Generation;
 use application_types::units::Units;
+use call_parts::made_report_lines;
 use device_acts::warm_start::{OpenError, open_tables};
 use device_run::run_script;
 use kd_base::{Bytes, OutOfMemory};
@@ -80,7 +80,7 @@ fn ran(
         Err(error) => return Err(want_of_memory(error)),
     };
     let tables = stored_tables(alloc, device)?;
-    report(alloc, n, commits, device.sent(), &tables)
+    made_report_lines(alloc, n, commits, device.sent(), &tables)
 }
 
 /// Runs the commands over a device of its own, from an empty file with this fingerprint, and answers the lines on it: the

@@ -1,5 +1,5 @@
 //! The tables that the device of a run has.
-ghost use Rattle.std.specs.Prelude.{◌≡◌, ℕ, IfOk};
+ghost use Rattle.std.specs.Prelude.{◌≡◌, IfOk};
 ghost use Rattle.kd_device.specs.Sure.{sure_state};
 ghost use Rattle.kd_records.specs.Identity.{Identity};
 ghost use Rattle.kdcfile_load.specs.declared.fault.LoadError.TheVariants as errors;

@@ -1,11 +1,12 @@
-//! The first half of a twin as a device: a call over one file, and the line of a refusal beside both files.
+//! The first half of a twin as a device: a call over one file.
 ghost use Rattle.std.specs.Prelude.{◌≡◌};
 ghost use Rattle.kd_device.specs.{Apart.{IsSince}, Twin.{disk_of, half_leaves, half_state}, declared.half.Half.TheVariants.{First, Second}};
-ghost use Rattle.utm_cli.specs.{Asking.{CanRun, one_errand}, Beside.{SendsRefusal, SendsRefusalTwo, line_for, status_for}, Parts.{EndsOne}, PromiseTwo.{FrameTwin}};
+ghost use Rattle.call_parts.specs.Asking.{CanRun, one_errand};
+ghost use Rattle.utm_cli.specs.Parts.{EndsOne};
+ghost use Rattle.call_parts.specs.LeavingTwo.{FrameTwin};
 
-use crate::errand::OneFile;
-use crate::refusing::{Cause, refuse_for};
 use crate::run::run;
+use call_parts::OneFile;
 use kd_device::{Half, HalfDevice, HalfOrigin, Twin};
 use refusals::Status;
 use std::alloc::Global;
@@ -37,26 +38,6 @@ pub(crate) fn run_first<T: Twin>(alloc: Global, twin: &mut T, base: &[u8], asked
     ensures frame { FrameTwin (T.both twin.old) (T.both twin.new) }
 {
     let (twin, status) = run_on::<&mut T, Brand>(alloc, twin, Half::First, base, asked);
-    let _ = twin;
-    status
-}
-
-fn refuse_on<T: Twin, O: HalfOrigin>(alloc: Global, twin: T, half: Half, why: Cause) -> (T, Status)
-    requires half { half ≡ O.half }
-    requires since { IsSince O.half O.place (T.place twin) O.both (T.both twin) O.leaves (T.leaves twin) }
-    ensures since { IsSince O.half O.place (T.place result.0) O.both (T.both result.0) O.leaves (T.leaves result.0) }
-    ensures refuses { SendsRefusal (status_for why) (line_for why) (half_state O.half (T.both twin)) (half_state O.half (T.both result.0)) result.1.code }
-{
-    let mut device: HalfDevice<T, O> = HalfDevice::new(twin, half);
-    let status = refuse_for(alloc, &mut device, why);
-    (device.into_twin(), status)
-}
-
-/// Sends the line of its cause. Both files stay as they are.
-pub(crate) fn refuse_beside<T: Twin>(alloc: Global, twin: &mut T, why: Cause) -> Status
-    ensures { SendsRefusalTwo (status_for why) (line_for why) (T.both twin.old) (T.both twin.new) result.code }
-{
-    let (twin, status) = refuse_on::<&mut T, Brand>(alloc, twin, Half::First, why);
     let _ = twin;
     status
 }

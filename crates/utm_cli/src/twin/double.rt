@@ -5,20 +5,22 @@ ghost use Rattle.laws_of_states.specs.Suits.{Suits};
 ghost use Rattle.kdcfile_double.specs.{Opening.{KeepsTablesTwice, SameFiles}, Twice.{FineTwice, IsKeptTwice, IsOpen, identity_of}};
 ghost use Rattle.refusals.specs.{declared.error.FileRefusal.{FileRefusal}, Lines.{file_line}, Statuses.{IsOneOf, status_of_file}};
 ghost use Rattle.twin_run.specs.Running.{FailsTwice, RanTwice, WithinTwice};
-ghost use Rattle.utm_cli.specs.Asking.{CanRun, audit_errand, errand_for, gen_errand, looking_errand, run_errand, storing_errand, task_word};
-ghost use Rattle.utm_cli.specs.{DoingTwo.{KeepsTwo, RefusesTwo, StartsTwo, acts_two, identity_of_two}, Parts.{LooksBytes}, PartsTwo.{DoesTwo}};
-ghost use Rattle.utm_cli.specs.PromiseTwo.{AttachesTwoBy, EndsTwo, FailsTwo, FaultsTwo, FineTwo, FrameTwin, MayAttachTwoBy, SaysPartTwo, SaysWhyTwo, StopsTwo, TellsTwo};
+ghost use Rattle.call_parts.specs.Asking.{CanRun, audit_errand, errand_for, gen_errand, looking_errand, run_errand, storing_errand, task_word};
+ghost use Rattle.utm_cli.specs.DoingTwo.{KeepsTwo, RefusesTwo, StartsTwo, acts_two};
+ghost use Rattle.call_parts.specs.Opening.{identity_of_two};
+ghost use Rattle.utm_cli.specs.Parts.{LooksBytes};
+ghost use Rattle.utm_cli.specs.PartsTwo.{DoesTwo};
+ghost use Rattle.utm_cli.specs.PromiseTwo.{AttachesTwoBy, EndsTwo, MayAttachTwoBy, SaysWhyTwo, StopsTwo, TellsTwo};
+ghost use Rattle.call_parts.specs.LeavingTwo.{FailsTwo, FaultsTwo, FineTwo, FrameTwin, SaysPartTwo};
 
-use crate::errand::{Looking, Storing, Task, Work};
-use crate::error::CallError;
-use crate::generation_report::report;
-use crate::refusing::Cause;
 use crate::run::{audit_line, lines_of};
-use crate::twin::beside::refuse_beside;
-use crate::twin::opening::{look_at_copies, open_copies};
 use abstract_monitor::Command;
 use application_read::Application;
 use audit_trail::Trail;
+use call_parts::{
+    CallError, Cause, Looking, Storing, Task, Work, look_at_copies, open_copies, refuse_beside,
+    report,
+};
 use device_acts::warm_start::{OpenError, limits_of};
 use kd_base::Sequence;
 use kd_device::{DeviceError, Twin};

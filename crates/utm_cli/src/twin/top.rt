@@ -1,14 +1,14 @@
 //! The top call over two disks: what the words ask for is done over one file or two, and answered as a status.
 ghost use Rattle.std.specs.{Prelude.{map}, String.{string_bytes}};
-ghost use Rattle.utm_cli.specs.{Answers.{AnswersTwo}, PromiseTwo.{twin_call}};
+ghost use Rattle.utm_cli.specs.Answers.{AnswersTwo};
+ghost use Rattle.utm_cli.specs.PromiseTwo.{twin_call};
 
-use crate::errand::{Asked, TwoFiles};
-use crate::lawful::{scripts_run_lawfully, suited_scripts_run_lawfully, texts_of_two_can_run};
-use crate::reading::read_texts;
-use crate::refusing::Cause;
-use crate::twin::beside::{refuse_beside, run_first};
+use crate::lawful::{scripts_run_lawfully, suited_scripts_run_lawfully};
+use crate::twin::beside::run_first;
 use crate::twin::double::double;
-use crate::words::request_of;
+use call_parts::{
+    Asked, Cause, TwoFiles, read_texts, refuse_beside, request_of, texts_of_two_can_run,
+};
 use kd_device::{Room, Twin};
 use refusals::{Status, TextError};
 use std::alloc::Global;

@@ -1,7 +1,7 @@
 use Rattle.std.proofs.Common.{◌∙◌, List, ℕ, subst}
 use Rattle.kd_base.specs.ToolsLaws.{error_same}
 use Rattle.device_acts.specs.Said.{Said}
-use Rattle.utm_cli.specs.Asking.{audit_errand}
+use Rattle.call_parts.specs.Asking.{audit_errand}
 use Rattle.utm_cli.specs.Doing.{own}
 use Rattle.utm_cli.specs.Promise.{SaysFront}
 use Rattle.utm_cli.proofs.run.audit.Goals as goal

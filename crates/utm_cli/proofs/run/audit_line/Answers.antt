@@ -2,11 +2,11 @@ use Rattle.std.proofs.Common.{ap, subst, sym, ◌∙◌}
 use Rattle.kd_base.specs.ToolsLaws.{err_is}
 use Rattle.refusals.specs.declared.error.FileRefusal.TheVariants.{Differs}
 use Rattle.trail_run.specs.Auditing.{verdict_line}
-use Rattle.utm_cli.specs.Asking.{audit_errand}
+use Rattle.call_parts.specs.Asking.{audit_errand}
 use Rattle.utm_cli.specs.AuditLaws.{holds_of}
 use Rattle.utm_cli.specs.Parts.{Finds}
-use Rattle.utm_cli.specs.declared.error.CallError.TheVariants.{Refused}
-use Rattle.utm_cli.proofs.HandedOn.{same_reason}
+use Rattle.call_parts.specs.declared.error.CallError.TheVariants.{Refused}
+use Rattle.call_parts.proofs.HandedOn.{same_reason}
 use Rattle.utm_cli.proofs.run.audit_line.Goals as goal
 
 pub returns-in-Differs-clause-refused : goal.returns-in-Differs-clause-refused

@@ -1,6 +1,6 @@
 use Rattle.std.proofs.Common.{refl, ◌∙◌}
 use Rattle.kd_device.specs.TimeLaws.{told_after}
-use Rattle.utm_cli.specs.Asking.{gen_errand}
+use Rattle.call_parts.specs.Asking.{gen_errand}
 use Rattle.utm_cli.proofs.Doing.{on_ok_both, report_can, report_within, report_writes, report_ran}
 use Rattle.utm_cli.proofs.Writing.{none_written}
 use Rattle.utm_cli.proofs.run.do_report.Goals as goal

@@ -1,9 +1,10 @@
 use Rattle.std.proofs.Common.{inl, refl}
 use Rattle.std.proofs.lemmas.Result.{on_ok_weaker}
-use Rattle.utm_cli.specs.Asking.{run_errand}
+use Rattle.call_parts.specs.Asking.{run_errand}
 use Rattle.utm_cli.proofs.Doing.{core_runs, parts_halts, parts_script, parts_stops, parts_within, parts_writes, parts_ran}
 use Rattle.utm_cli.proofs.Stopping.{at_error, on_err_weaker}
 use Rattle.utm_cli.proofs.Writing.{none_written}
+use Rattle.utm_cli.proofs.Turns.{turns_from}
 use Rattle.utm_cli.proofs.run.do_script.Goals as goal
 
 pub run_script-requires-clause-running : goal.run_script-requires-clause-running
@@ -44,3 +45,6 @@ pub returns-clause-halted : goal.returns-clause-halted
 returns-clause-halted g c = λ is.
     parts_halts (run_errand c.args.work c.args.commands.now) c.args.tables c.in_ok-core.core c.in_ok-core.ensures.application c.in_ok-core.ensures.state c.in_ok-core.ensures.steps c.as_slice.result.now c.as_slice.ensures refl c.requires.suits
     (g.D.Device.state c.args.device.now) (g.D.Device.state c.run_script.new.device) (g.D.Device.leaves c.args.device.now) (g.D.Device.leaves c.run_script.new.device) (c.run_script.ensures.halted is)
+
+pub run_script-requires-clause-steps : goal.run_script-requires-clause-steps
+run_script-requires-clause-steps g c = turns_from (run_errand c.args.work c.args.commands.now) c.in_ok-core.core.steps c.in_ok-core.ensures.steps c.as_slice.result.now c.as_slice.ensures c.requires.can

@@ -1,8 +1,8 @@
 use Rattle.std.proofs.Common.{sym, subst}
-use Rattle.utm_cli.specs.Asking.{storing_errand}
+use Rattle.call_parts.specs.Asking.{storing_errand}
 use Rattle.utm_cli.specs.Parts.{ErrandHalts, ErrandStops, ErrandWrites}
-use Rattle.utm_cli.specs.declared.errand.Storing.{Storing}
-use Rattle.utm_cli.proofs.HandedOn.{script_failed}
+use Rattle.call_parts.specs.declared.errand.Storing.{Storing}
+use Rattle.call_parts.proofs.HandedOn.{script_failed}
 use Rattle.utm_cli.proofs.Stopping.{at_error}
 use Rattle.utm_cli.proofs.run.do_storing.Goals as goal
 

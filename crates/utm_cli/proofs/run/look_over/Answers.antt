@@ -1,7 +1,7 @@
 use Rattle.std.proofs.Common.{◌∙◌, List, ℕ, subst}
 use Rattle.std.specs.Prelude.{IsTrue}
 use Rattle.device_acts.specs.Said.{Said}
-use Rattle.utm_cli.specs.Asking.{looking_errand}
+use Rattle.call_parts.specs.Asking.{looking_errand}
 use Rattle.utm_cli.specs.Parts.{looked_by}
 use Rattle.utm_cli.proofs.ByWord.{looked_front, none_front}
 use Rattle.utm_cli.proofs.Ran.{said_then}

@@ -1,7 +1,7 @@
 use Rattle.std.proofs.Common.{sym, subst}
-use Rattle.utm_cli.specs.Asking.{one_errand}
+use Rattle.call_parts.specs.Asking.{one_errand}
 use Rattle.utm_cli.specs.Parts.{EndsOne}
-use Rattle.utm_cli.specs.declared.errand.OneFile.{OneFile}
+use Rattle.call_parts.specs.declared.errand.OneFile.{OneFile}
 use Rattle.utm_cli.proofs.run.run.Goals as goal
 
 pub returns-in-Over : goal.returns-in-Over

@@ -1,7 +1,7 @@
 use Rattle.std.proofs.Common.{sym, subst}
-use Rattle.utm_cli.specs.Asking.{errand_for}
+use Rattle.call_parts.specs.Asking.{errand_for}
 use Rattle.utm_cli.specs.Parts.{DoesOne}
-use Rattle.utm_cli.specs.declared.errand.Task.{Task}
+use Rattle.call_parts.specs.declared.errand.Task.{Task}
 use Rattle.utm_cli.proofs.Running.{audit_does, look_does, store_does, update_does}
 use Rattle.utm_cli.proofs.run.run_over.Goals as goal
 

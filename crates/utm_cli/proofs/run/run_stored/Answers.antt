@@ -3,8 +3,9 @@ use Rattle.std.specs.Prelude.{IsTrue, true}
 use Rattle.std.proofs.lemmas.Result.{on_ok_weaker}
 use Rattle.kdcs_types.specs.Tables.{TableRows}
 use Rattle.abstract_monitor.specs.Trace.{bytes_of}
-use Rattle.utm_cli.specs.Asking.{storing_errand}
-use Rattle.utm_cli.specs.Doing.{Opens, own, acts_of}
+use Rattle.call_parts.specs.Asking.{storing_errand}
+use Rattle.call_parts.specs.Opening.{Opens}
+use Rattle.utm_cli.specs.Doing.{own, acts_of}
 use Rattle.device_acts.specs.Acting.{commits_nothing}
 use Rattle.device_acts.specs.ErrorsLaws.{no_error}
 use Rattle.utm_cli.proofs.Refused.{open_refused}

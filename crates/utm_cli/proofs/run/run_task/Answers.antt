@@ -5,11 +5,11 @@ use Rattle.refusals.specs.declared.error.FileRefusal.{FileRefusal}
 use Rattle.refusals.specs.Lines.{file_line}
 use Rattle.refusals.specs.Statuses.{IsOneOf, status_of_file}
 use Rattle.device_acts.specs.Said.{SaidPart}
-use Rattle.utm_cli.specs.declared.error.CallError.{CallError}
-use Rattle.utm_cli.specs.Asking.{errand_for, task_word}
+use Rattle.call_parts.specs.declared.error.CallError.{CallError}
+use Rattle.call_parts.specs.Asking.{errand_for, task_word}
 use Rattle.utm_cli.specs.Doing.{Refuses}
 use Rattle.utm_cli.specs.Promise.{MayHandOn, Tells}
-use Rattle.utm_cli.specs.Words.{file_name}
+use Rattle.call_parts.specs.Words.{file_name}
 use Rattle.utm_cli.proofs.Answering.{tells_all}
 use Rattle.utm_cli.proofs.ByWord.{may_then}
 use Rattle.utm_cli.proofs.Refused.{not_both, one_reason}

@@ -1,5 +1,5 @@
 use Rattle.std.proofs.Common.{refl}
-use Rattle.utm_cli.specs.Asking.{update_errand}
+use Rattle.call_parts.specs.Asking.{update_errand}
 use Rattle.kd_device.specs.TimeLaws.{told_after}
 use Rattle.utm_cli.proofs.Refused.{carry_refused}
 use Rattle.utm_cli.proofs.Updated.{still_then, judged_then, updated_then, cut_then, written_then, left_then}

@@ -5,10 +5,10 @@ use Rattle.refusals.specs.declared.error.TextError.{TextError}
 use Rattle.refusals.specs.Lines.{refusal_line}
 use Rattle.refusals.specs.Statuses.{status_of}
 use Rattle.refusals.specs.declared.error.Refusal.{Refusal}
-use Rattle.utm_cli.specs.Asking.{IsOfWord, one_errand}
-use Rattle.utm_cli.specs.Beside.{SendsRefusal}
+use Rattle.call_parts.specs.Asking.{IsOfWord, one_errand}
+use Rattle.call_parts.specs.Beside.{SendsRefusal}
 use Rattle.utm_cli.proofs.Answering.{asked_nothing, asked_words, refused_call, run_call, usage_call, without_memory, without_room}
-use Rattle.utm_cli.proofs.AskedSaid.{double_alone, double_found, no_make, of_two, one_alone, one_found}
+use Rattle.call_parts.proofs.AskedSaid.{double_alone, double_found, no_make, of_two, one_alone, one_found}
 use Rattle.utm_cli.proofs.top.utm.Goals as goal
 
 pub returns-in-Ok-One : goal.returns-in-Ok-One

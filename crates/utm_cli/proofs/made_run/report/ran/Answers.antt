@@ -20,5 +20,5 @@ returns c =
     let sent = c.sent.ensures ∙ c.stored_tables.ensures.sent ∙ done.sent ∙ ap (λ (l : List ℕ). l ++ bytes_of acts) c.requires.silent in
     record {
       exact = reported c.args.n (durable_of core) acts c.in-Ok.commits c.sent.result.now c.in_ok-tables.tables (c.in-Ok.ensures.counted refl) sent
-          (c.in_ok-tables.ensures.tables (identity_of c.args.fingerprint.now core) (tables_after (durable_of core) acts) done.holds) c.report.result c.report.ensures;
+          (c.in_ok-tables.ensures.tables (identity_of c.args.fingerprint.now core) (tables_after (durable_of core) acts) done.holds) c.made_report_lines.result c.made_report_lines.ensures;
     }

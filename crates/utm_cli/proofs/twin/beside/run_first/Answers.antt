@@ -1,7 +1,8 @@
 use Rattle.std.proofs.Common.{rules}
 use Rattle.kd_device.specs.declared.half.Half.TheVariants.{First}
 use Rattle.kd_device.specs.ApartLaws.{since_now}
-use Rattle.utm_cli.proofs.twin.beside.OneHalf.{ends_given, frame_given, second_stays}
+use Rattle.utm_cli.proofs.twin.beside.OneHalf.{ends_given}
+use Rattle.call_parts.proofs.OneHalf.{frame_given, second_stays}
 use Rattle.utm_cli.proofs.twin.beside.run_first.Goals as goal
 
 pub run_on-twin-requires-clause-since : goal.run_on-twin-requires-clause-since

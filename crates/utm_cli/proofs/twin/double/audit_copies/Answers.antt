@@ -1,9 +1,9 @@
 use Rattle.std.proofs.Common.{Err, Ok, ap, refl, ◌∙◌}
 use Rattle.device_acts.specs.ErrorsLaws.{no_error}
-use Rattle.utm_cli.specs.Asking.{audit_errand}
+use Rattle.call_parts.specs.Asking.{audit_errand}
 use Rattle.utm_cli.specs.Doing.{HoldsAll, held_line, own}
-use Rattle.utm_cli.specs.declared.error.CallError.{CallError}
-use Rattle.utm_cli.specs.declared.words.Word.TheVariants.{Audit}
+use Rattle.call_parts.specs.declared.error.CallError.{CallError}
+use Rattle.call_parts.specs.declared.words.Word.TheVariants.{Audit}
 use Rattle.utm_cli.proofs.twin.Answered.{none_failed}
 use Rattle.utm_cli.proofs.twin.ByWord.{judges}
 use Rattle.utm_cli.proofs.twin.Does.{not_looked_at, said_does, stays_does, unsaid_does}

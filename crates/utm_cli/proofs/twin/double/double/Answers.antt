@@ -3,11 +3,12 @@ use Rattle.std.specs.Prelude.{IsTrue}
 use Rattle.refusals.specs.Lines.{file_line}
 use Rattle.refusals.specs.Statuses.{IsOneOf, status_of_file}
 use Rattle.refusals.specs.declared.error.FileRefusal.{FileRefusal}
-use Rattle.utm_cli.specs.Asking.{errand_for, task_word}
-use Rattle.utm_cli.specs.declared.error.CallError.{CallError}
+use Rattle.call_parts.specs.Asking.{errand_for, task_word}
+use Rattle.call_parts.specs.declared.error.CallError.{CallError}
 use Rattle.utm_cli.specs.DoingTwo.{RefusesTwo}
-use Rattle.utm_cli.specs.PromiseTwo.{SaysPartTwo, TellsTwo}
-use Rattle.utm_cli.proofs.HandedOn.{refused_not_failed}
+use Rattle.call_parts.specs.LeavingTwo.{SaysPartTwo}
+use Rattle.utm_cli.specs.PromiseTwo.{TellsTwo}
+use Rattle.call_parts.proofs.HandedOn.{refused_not_failed}
 use Rattle.utm_cli.proofs.twin.Answered.{fine_then, part_then, said_then}
 use Rattle.utm_cli.proofs.twin.ByWord.{attached_then_none, tells_two}
 use Rattle.utm_cli.proofs.twin.Refused.{file_status, not_both, one_reason}

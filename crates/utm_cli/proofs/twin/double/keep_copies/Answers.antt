@@ -1,5 +1,5 @@
 use Rattle.device_acts.specs.ErrorsLaws.{no_error}
-use Rattle.utm_cli.specs.Asking.{storing_errand}
+use Rattle.call_parts.specs.Asking.{storing_errand}
 use Rattle.utm_cli.proofs.twin.ByWord.{storing_keeps_two}
 use Rattle.utm_cli.proofs.twin.Does.{kept_does, unopened_as}
 use Rattle.utm_cli.proofs.twin.double.keep_copies.Goals as goal

@@ -1,8 +1,8 @@
 use Rattle.std.proofs.Common.{Ok, ap, subst, ◌∙◌}
 use Rattle.kdcs_types.specs.Tables.{TableRows}
 use Rattle.device_acts.specs.ErrorsLaws.{no_error}
-use Rattle.utm_cli.specs.Asking.{looking_errand, looking_word}
-use Rattle.utm_cli.specs.DoingTwo.{OpensTwo}
+use Rattle.call_parts.specs.Asking.{looking_errand, looking_word}
+use Rattle.call_parts.specs.Opening.{OpensTwo}
 use Rattle.utm_cli.specs.Parts.{LooksBytes, looked_by}
 use Rattle.utm_cli.proofs.twin.ByWord.{lists, looking_attaches, looking_may, looking_refuses, looking_starts, looking_told}
 use Rattle.utm_cli.proofs.twin.Does.{attached_before, looked_at, memory_does, opened_once, said_does, unlooked_does, unsaid_does}

@@ -1,11 +1,11 @@
 use Rattle.std.proofs.Common.{Err, refl, sym, subst}
-use Rattle.utm_cli.specs.Asking.{errand_for}
+use Rattle.call_parts.specs.Asking.{errand_for}
 use Rattle.utm_cli.specs.PartsTwo.{DoesTwo}
-use Rattle.utm_cli.specs.declared.errand.Task.{Task}
-use Rattle.utm_cli.specs.declared.errand.Task.TheVariants as task
+use Rattle.call_parts.specs.declared.errand.Task.{Task}
+use Rattle.call_parts.specs.declared.errand.Task.TheVariants as task
 use Rattle.refusals.specs.declared.error.FileRefusal.TheVariants.{TwoCopies}
-use Rattle.utm_cli.specs.declared.error.CallError.TheVariants.{Refused}
-use Rattle.utm_cli.specs.declared.words.Word.TheVariants.{Update}
+use Rattle.call_parts.specs.declared.error.CallError.TheVariants.{Refused}
+use Rattle.call_parts.specs.declared.words.Word.TheVariants.{Update}
 use Rattle.utm_cli.proofs.twin.Answered.{none_failed}
 use Rattle.utm_cli.proofs.twin.Does.{not_looked_at, refused_does}
 use Rattle.utm_cli.proofs.twin.double.over_copies.Goals as goal

@@ -1,7 +1,7 @@
 use Rattle.kd_device.specs.declared.error.DeviceError.TheVariants as device
 use Rattle.device_acts.specs.declared.warm_start.error.OpenError.TheVariants as opening
-use Rattle.utm_cli.specs.Causes.{of_device, of_open}
-use Rattle.utm_cli.proofs.HandedOn.{acts_failed, no_cause, script_failed}
+use Rattle.call_parts.specs.Causes.{of_device, of_open}
+use Rattle.call_parts.proofs.HandedOn.{acts_failed, no_cause, script_failed}
 use Rattle.utm_cli.proofs.twin.double.run_copies.Goals as goal
 
 pub returns-in_err-report_copies-in-Report-clause-failed : goal.returns-in_err-report_copies-in-Report-clause-failed

@@ -1,7 +1,7 @@
 use Rattle.std.proofs.Common.{refl}
 use Rattle.std.proofs.lemmas.Result.{on_ok_weaker}
 use Rattle.kdcfile_double.specs.CommitTwoLaws.{fine_still}
-use Rattle.utm_cli.specs.Asking.{run_errand}
+use Rattle.call_parts.specs.Asking.{run_errand}
 use Rattle.utm_cli.proofs.Doing.{parts_script}
 use Rattle.utm_cli.proofs.twin.Keeps.{nothing_within}
 use Rattle.utm_cli.proofs.twin.Scripts.{core_runs, parts_made_for, parts_ran, parts_turns, parts_within}

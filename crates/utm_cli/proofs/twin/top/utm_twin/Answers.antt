@@ -6,17 +6,17 @@ use Rattle.refusals.specs.Lines.{refusal_line}
 use Rattle.refusals.specs.Statuses.{status_of}
 use Rattle.refusals.specs.declared.error.Refusal.{Refusal}
 use Rattle.refusals.specs.declared.error.TextError.{TextError}
-use Rattle.utm_cli.specs.Asking.{IsOfWord, errand_for, one_errand}
-use Rattle.utm_cli.specs.AskingLaws.{not_missed}
-use Rattle.utm_cli.specs.declared.errand.Asked.TheVariants.{Two}
-use Rattle.utm_cli.specs.declared.errand.TwoFiles.{TwoFiles}
-use Rattle.utm_cli.specs.declared.errand.TwoFiles.TheVariants as files
-use Rattle.utm_cli.specs.Beside.{SendsRefusalTwo}
+use Rattle.call_parts.specs.Asking.{IsOfWord, errand_for, one_errand}
+use Rattle.call_parts.specs.AskingLaws.{not_missed}
+use Rattle.call_parts.specs.declared.errand.Asked.TheVariants.{Two}
+use Rattle.call_parts.specs.declared.errand.TwoFiles.{TwoFiles}
+use Rattle.call_parts.specs.declared.errand.TwoFiles.TheVariants as files
+use Rattle.call_parts.specs.Beside.{SendsRefusalTwo}
 use Rattle.utm_cli.proofs.Answering.{asked_nothing, asked_words, refused_call, run_call, without_memory, without_room}
-use Rattle.utm_cli.proofs.AskedSaid.{double_found, no_second, of_two, of_two_word, one_alone, one_found, two_alone, two_found}
+use Rattle.call_parts.proofs.AskedSaid.{double_found, no_second, of_two, of_two_word, one_alone, one_found, two_alone, two_found}
 use Rattle.utm_cli.proofs.twin.Calls.{double_call, first_stays, memory_call, read_two, refused_two_call, room_call, single_call, stops_at_first, usage_two_call}
 use Rattle.utm_cli.proofs.twin.Lawful.{laws_over_two}
-use Rattle.utm_cli.proofs.twin.beside.OneHalf.{first_refusal}
+use Rattle.call_parts.proofs.OneHalf.{first_refusal}
 use Rattle.utm_cli.proofs.twin.top.utm_twin.Goals as goal
 
 -- ---- they ask for one file

@@ -1,0 +1,15 @@
+pub mod Scripts
+pub mod CanRun
+pub mod TextsSaid
+pub mod ErrandSaid
+pub mod AskedSaid
+pub mod Opened
+pub mod HandedOn
+pub mod MadeTexts
+pub mod MadeExamples
+pub mod MadeDefinition
+pub mod MadeScript
+pub mod EmittedLines
+pub mod MadeReading
+pub mod MadeLines
+pub mod OneHalf

@@ -1,0 +1,4 @@
+pub mod Living
+pub mod Ends
+pub mod Promise
+pub mod Answers

@@ -1,0 +1,5 @@
+pub mod SessionLaws
+pub mod Errors
+pub mod Acting
+pub mod Asking
+pub mod SoFar

@@ -1,0 +1,7 @@
+pub mod Causes
+pub mod Typing
+pub mod MemLines
+pub mod Answers
+pub mod Sessions
+pub mod Performing
+pub mod Talking

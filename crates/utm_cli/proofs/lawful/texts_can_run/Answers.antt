@@ -1,5 +1,0 @@
-use Rattle.utm_cli.proofs.CanRun.{texts_run}
-use Rattle.utm_cli.proofs.lawful.texts_can_run.Goals as goal
-
-pub returns : goal.returns
-returns c = texts_run c.generations_are_sound.ensures.sound c.generations_are_sound.ensures.fit c.commands_are_said.ensures.commands_only c.says_what_its_lines_say.ensures.trails

@@ -1,5 +1,0 @@
-use Rattle.utm_cli.proofs.EmittedLines.{emits_are_lines}
-use Rattle.utm_cli.proofs.made_run.laws.emits_are_lines.Goals as goal
-
-pub returns : goal.returns
-returns c = emits_are_lines (c.facts_hold_along.ensures.steps c.states_stay_sound.ensures)
