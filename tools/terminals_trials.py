@@ -64,13 +64,18 @@ class Counts:
             print(f"terminals: {name}: {found!r}")
 
 
+def heed_interrupts():
+    """What is begun heeds ^C, also where the trials were begun by what passes it over, as a job in the background."""
+    signal.signal(signal.SIGINT, signal.SIG_DFL)
+
+
 class Served:
     """The terminals of an application, at work in a process of their own."""
 
     def __init__(self, folder, live, base="app"):
         words = [TOP / "terminals", base, "--port", "0", *(["--live", live] if live else [])]
         how = {"stdin": subprocess.DEVNULL, "stdout": subprocess.PIPE, "stderr": subprocess.PIPE, "text": True}
-        self.process = subprocess.Popen(words, cwd=folder, **how)
+        self.process = subprocess.Popen(words, cwd=folder, preexec_fn=heed_interrupts, **how)
         self.address = self.process.stdout.readline().strip()
         self.host = self.address.split("/")[2] if self.address else ""
 
