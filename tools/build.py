@@ -4,7 +4,7 @@
     python3 tools/build.py NAME JOBS LAUNCHER,.. [run WORD..]
 
 NAME is the launcher under whose name all is told. JOBS is how many processors are used, and 0 stands for all that
-there are. Then come the launchers whose programs are built: utm, lab, live, or test, whose program is utm_cases. With `run`
+there are. Then come the launchers whose programs are built: utm, lab, live, carry, or test, whose program is utm_cases. With `run`
 this process becomes the first of these programs, with the words behind it. What several programs stand on is proved
 once.
 
@@ -271,7 +271,7 @@ class Build:
         )
         say("only what is proved is built, and it is proved on this machine, once: then the programs start at once")
         say("it may be stopped, and goes on from there. With --jobs N as first words it takes N processors")
-        say("'./utm --build' builds all programs, utm, lab and live, and runs none")
+        say("'./utm --build' builds all programs, utm, lab, live and carry, and runs none")
         self.warn()
 
     def warn(self):

@@ -22,6 +22,7 @@ PROGRAMS = {
     "utm": Program("utm", ["run", "nothing"], 6),
     "lab": Program("kdcs_lab", ["trace", "nothing"], 6),
     "live": Program("live", ["nothing"], 6),
+    "carry": Program("carry", ["state", "nothing"], 0),
     "test": Program("utm_cases", [], 0),
 }
 

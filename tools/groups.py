@@ -54,7 +54,8 @@ GROUPS = {
     "launcher": checks("launcher"),
     "documents": checks("documents"),
     "faults": checks("faults"),
-    "live": checks("live"),
+    "live": [*checks("live"), *checks("day")],
+    "carry": checks("carry"),
 }
 
 

@@ -60,14 +60,33 @@ builds() {
     python3 "$top/tools/build.py" "$name" "$jobs" "$stale"
 }
 
+# gate_of FILE: its first byte in two digits, that of a whole file being 4b; nothing where it is empty or not there
+gate_of() { if [ -f "$1" ]; then od -An -tx1 -N1 -- "$1" 2>/dev/null | tr -d ' '; fi; }
+
+# warns_of_halves BASE: warns where one of two copies is missing or empty. A copy of before that comes back later would
+# count beside none, and what was committed since then would be undone.
+warns_of_halves() {
+    if grep -qiE '^[[:space:]]*MAX[[:space:]].*DOUBLE' -- "$1.def" 2>/dev/null; then
+        for pair in "A B" "B A"; do
+            one=$1.KDC${pair% *} other=$1.KDC${pair#* }
+            if [ "$(gate_of "$one")" = 4b ] && [ ! -s "$other" ]; then
+                [ -e "$other" ] && what='is empty' || what='is not there'
+                echo "$name: $other: $what beside a copy; docs/operating.md says when that is safe" >&2
+            fi
+        done
+    elif [ -s "$1.KDCB" ]; then
+        echo "$name: $1.KDCB: a second copy is there, and $1.def asks for one file" >&2
+    fi
+}
+
 # becomes CRATE WORD..: becomes its program with these words, which is built first where it has to be
 becomes() {
     crate=$1
     shift
     if [ "$builds_only" = yes ]; then
         [ $# = 0 ] || refuse '--build runs nothing, so no other word comes behind it'
-        builds utm:utm lab:kdcs_lab live:live || exit
-        echo "$name: utm, lab and live are built" >&2
+        builds utm:utm lab:kdcs_lab live:live carry:carry || exit
+        echo "$name: utm, lab, live and carry are built" >&2
         exit 0
     fi
     if is_stale "$crate"; then

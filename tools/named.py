@@ -1,25 +1,29 @@
 #!/usr/bin/env python3
 """Tries that what the documents name is there.
 
-    python3 tools/named.py      says each name that is not found; the status is 1 then
+    python3 tools/named.py            says each name that is not found; the status is 1 then
+    python3 tools/named.py --laws     prints the laws, each with its crate or module and what it says
 
 Looked at are README.md and docs/*.md:
 - a path is that of a file, from the top, from crates/, from a crate or from docs/; a file that is named without its
   folder is there under this name, in docs/MODEL.md among the definitions of abstract_monitor;
 - a name of several words, as `first_due` or `Core::turn`, is a crate, a file, an edit, or a word of the sources;
-- the tables of crates in docs/ARCHITECTURE.md: behind each crate are its public modules, and no others;
+- the tables of crates in docs/ARCHITECTURE.md: in the row of each crate are its public modules, and no others, and the
+  first lines of crate and module say what they are for;
 - `WORD in FILE` of docs/ARCHITECTURE.md: the file has the word;
-- a row of docs/RULES.md: it leads to a page; in `WORD in FILE` the file has the word; in `CLAUSE of CALL` the contract
-  of the call has the clause, in the file of the code of that rule; and the proof of that call is where it is said to be;
+- a row of docs/RULES.md: it leads to a page; in `FILE WORD` the file has the word; in `FILE CALL: CLAUSE` the contract of
+  the call has the clause; and the proof of that call is where it is said to be;
 - a row of docs/changing.md with a file of crates/ and a word in quotes: the file has the word;
 - the table of docs/edits.md: it has each must-fail edit, with the crate or module that the edit is of;
 - a name after that of a crate or of a public module, as kdcfile_images `create`, is a word of this one; one after a file
   of definitions, as `Turns.antt`, `turn_of`, a word of that file;
 - the clauses of docs/PROVED.md are those of `utm` and of `utm_twin`, with the parts of `laws`, each in its section, and all
-  of them; the calls of the laboratory have the clauses behind them; and so has each call in the last column of the drawing;
-- the laws in the tables of docs/PROVED.md and docs/MODEL.md are those of the sources, all of them: functions without
-  arguments and results;
-- README.md has at most 150 lines.
+  of them; the calls of the other programs have the clauses behind them; and so has each call in the last column of the
+  drawing;
+- the laws in the table of docs/MODEL.md are those of the sources, and each law, a function without arguments and results,
+  has a comment that says it;
+- the names of clauses in docs/words.md are those of clauses in the sources;
+- README.md and docs/DECISIONS.md have at most 150 lines.
 
 What is a word of a public module is none of the crate that the module is in.
 """
@@ -53,6 +57,7 @@ QUOTED = re.compile(r"`([^`]+)`")
 EDITS = {it.stem: it for it in (TOP / "crates").glob("*/must-fail/*.edit")}
 KIT = {"start_lib"}
 RULE = ["Rule", "Definition", "Code", "Proof", "Case"]
+MOST_LINES = 150
 
 
 def pages():
@@ -148,7 +153,9 @@ def rows_of(section):
 
 
 def pairs_of(text):
-    return re.findall(r"`([\w-]+)` in +([\w/]+\.(?:antt|rt))", text)
+    """The words with their files: `WORD` in FILE in a sentence, FILE `WORD` in a row."""
+    in_rows = re.findall(r"([\w/]+\.(?:antt|rt)) +`([\w-]+)`", text)
+    return re.findall(r"`([\w-]+)` in +([\w/]+\.(?:antt|rt))", text) + [(word, file) for file, word in in_rows]
 
 
 def pair_faults(text):
@@ -162,10 +169,12 @@ def rule_faults(text):
     yield from pair_faults(text)
     for section in re.split(r"(?m)^## ", text)[1:]:
         named = re.findall(r"\w+/src/[\w/]+\.rt", section)
-        for row in rows_of(section):
+        for place, row in enumerate(rows_of(section)):
             if len(row) != len(RULE):
                 yield f"{row[0]}: {len(row)} cells"
                 continue
+            if place == 0 and not row[-1]:
+                yield f"{row[0]}: no case"
             rule, definition, code, proof, _ = row
             if not pairs_of(definition):
                 yield f"{rule}: no definition"
@@ -218,13 +227,11 @@ def contracts_in(call, files):
 
 
 def clauses_of_rule(cell):
-    """The calls of a cell, each with the clauses that the cell names of it."""
-    cell = re.sub(r"`[\w-]+` (?:of `\w+` )?in [\w/]+\.antt", "", cell)
-    for clauses, calls in re.findall(r"((?:`\w+` and )?`\w+`) of ((?:`\w+` and )?`\w+`)", cell):
+    """The calls of a cell, each with the clauses that the cell names of it: FILE `call`: `clause`, `clause`; `call`: .."""
+    for part in cell.split("; "):
+        calls, _, clauses = part.partition(": ")
         for call in QUOTED.findall(calls):
             yield QUOTED.findall(clauses), call
-    for call in QUOTED.findall(re.sub(r"(?:`\w+` and )?`\w+` of (?:`\w+` and )?`\w+`", "", cell)):
-        yield [], call
 
 
 def clause_faults(where, call, clauses, found):
@@ -236,13 +243,16 @@ def clause_faults(where, call, clauses, found):
 
 
 def architecture_faults(text):
-    """The tables of crates: behind the row of each crate are those of its public modules."""
+    """The tables of crates: in the row of each crate are its public modules, and the first lines of each say what it is for."""
     section = text[text.index("## The crates") : text.index("## The path of the data")]
-    rows = re.split(r"(?m)^\| \*\*(\w+)\*\* \|", section)[1:]
-    for crate, behind in zip(rows[::2], rows[1::2]):
+    for crate, purpose in re.findall(r"(?m)^\| \*\*(\w+)\*\* \| ([^|]*) \|", section):
         modules = {it for it in HOMES if HOMES[it] == crate and it != crate}
-        for name in sorted(modules ^ set(re.findall(r"(?m)^\| ↳ (\w+) \| \S", behind))):
-            yield f"{crate}: the module {name} {'has no row' if name in modules else 'is none of it'}"
+        said = set(re.findall(r"\w+", purpose.partition("; modules: ")[2]))
+        for name in sorted(modules ^ said):
+            yield f"{crate}: the module {name} {'is not in its row' if name in modules else 'is none of it'}"
+        for path in (Path(crate, "src", f"{it}.rt") for it in ["lib", *sorted(modules)]):
+            if path in CODE and not re.search(r"(?m)^//! \w", CODE[path]):
+                yield f"{path}: its first lines do not say what it is for"
 
 
 def change_faults(text):
@@ -270,15 +280,18 @@ def home_of_edit(path):
 
 def proved_faults(text):
     """The clauses of both top calls, each said, and no others."""
-    for title, records in (("## One disk", ("AnswersOne", "RunsLawfully")), ("## Two disks", ("AnswersTwo",))):
+    one = (("utm_cli", "AnswersOne"), ("call_ends", "RunsLawfully"))
+    for title, records in (("## One disk", one), ("## Two disks", (("utm_cli", "AnswersTwo"),))):
         said = clauses_said(section_of(text, title))
-        fields = [it for record in records for it in RECORDS["utm_cli", record]]
+        fields = [it for record in records for it in RECORDS[record]]
         fields = [it for it in fields if it != "laws" or len(records) == 1]
         yield from (f"{title}: no clause {it}" for it in said if it not in fields)
         yield from (f"{title}: the clause {it} is not said" for it in fields if it not in said)
         yield from (f"{title}: the clause {it} is said twice" for it in sorted(set(said)) if said.count(it) > 1)
     for item in items_of(section_of(text, "## The laboratory")):
         yield from call_faults(item)
+    for home, call, clauses in re.findall(r"(?m)^([a-z_]+) `(\w+)`: ((?:`\w+`(?:, )?)+):", text):
+        yield from clause_faults(f"the call of {home}", call, QUOTED.findall(clauses), contracts(call, home))
     for home, call, clause in re.findall(r"(?m) (\w+) (\w+): (\w+)$", section_of(text, "## From the disk")):
         yield from clause_faults(f"the drawing, {home}", call, [clause], contracts(call, home))
 
@@ -313,32 +326,47 @@ def call_faults(item):
 
 
 def laws_of_sources():
-    """The functions without arguments and results, by their homes."""
-    return {(HOME[path], name) for path, text in CODE.items() for name in re.findall(r"(?m)^pub fn (\w+)\(\)\n", text)}
+    """The functions without arguments and results, by their homes, each with the comment above it."""
+    law = re.compile(r"(?m)((?:^(?:///|#\[).*\n)*)^pub fn (\w+)\(\)\n")
+    found = ((HOME[path], one[2], one[1]) for path, text in CODE.items() for one in law.finditer(text))
+    return {(home, name): " ".join(re.findall(r"(?m)^/// ?(.*)$", above)) for home, name, above in found}
 
 
-def law_faults(proved, model):
-    """The laws in both tables: each is there, and all are said."""
-    laws, said = laws_of_sources(), set()
-    for section in (section_of(proved, "## Laws that are proved"), section_of(model, "## What is proved of")):
-        for home, names in re.findall(r"(\w+) ((?:`\w+`(?:, )?)+)", section):
-            said |= {(home, it) for it in QUOTED.findall(names)}
-    for home, name in sorted(said - laws):
-        if home in HOMES and not contracts(name, home):
-            yield f"no law {name} in {home}"
-    yield from (f"the law {name} of {home} is not said" for home, name in sorted(laws - said))
+def law_faults(model):
+    """The laws in the table are there; and each law says what it is."""
+    laws = laws_of_sources()
+    for home, names in re.findall(r"(\w+) ((?:`\w+`(?:, )?)+)", section_of(model, "## What is proved of")):
+        for name in QUOTED.findall(names):
+            if home in HOMES and (home, name) not in laws and not contracts(name, home):
+                yield f"no law {name} in {home}"
+    yield from (f"the law {name} of {home} has no comment" for (home, name), says in sorted(laws.items()) if not says)
 
 
-def readme_faults(text):
-    lines = len(text.split("\n")) - 1
-    if lines > 150:
-        yield f"{lines} lines, and at most 150 are to be read"
+def clause_names_faults(text):
+    """The table of names of clauses: each is the name of a clause in the sources."""
+    clauses = set(re.findall(r"\bensures (\w+) *\{", " ".join(CODE.values())))
+    named = re.findall(r"(?m)^\| ((?:`\w+`(?:, )?)+) \|", section_of(text, "## Names of clauses"))
+    yield from (f"no clause {it}" for row in named for it in QUOTED.findall(row) if it not in clauses)
 
 
-def main():
+def length_faults(page):
+    lines = len(page.read_text(encoding="utf-8").split("\n")) - 1
+    if lines > MOST_LINES:
+        yield f"{lines} lines, and at most {MOST_LINES} are to be read"
+
+
+def main(words):
+    if words == ["--laws"]:
+        for (home, name), says in sorted(laws_of_sources().items()):
+            print(f"{home} {name}: {says}")
+        return 0
+    if words:
+        sys.exit(__doc__)
     faults = [f"{page.relative_to(TOP)}: {it}" for page in pages() for it in page_faults(page)]
-    faults += [f"README.md: {it}" for it in readme_faults((TOP / "README.md").read_text(encoding="utf-8"))]
     docs = TOP / "docs"
+    for page in (TOP / "README.md", docs / "DECISIONS.md"):
+        faults += [f"{page.relative_to(TOP)}: {it}" for it in length_faults(page)]
+    faults += [f"docs/words.md: {it}" for it in clause_names_faults((docs / "words.md").read_text(encoding="utf-8"))]
     architecture = (docs / "ARCHITECTURE.md").read_text(encoding="utf-8")
     faults += [f"docs/ARCHITECTURE.md: {it}" for it in [*architecture_faults(architecture), *pair_faults(architecture)]]
     faults += [f"docs/RULES.md: {it}" for it in rule_faults((docs / "RULES.md").read_text(encoding="utf-8"))]
@@ -348,11 +376,11 @@ def main():
     proved = (docs / "PROVED.md").read_text(encoding="utf-8")
     faults += [f"docs/PROVED.md: {it}" for it in proved_faults(proved)]
     model = (docs / "MODEL.md").read_text(encoding="utf-8")
-    faults += [f"docs/PROVED.md and docs/MODEL.md: {it}" for it in law_faults(proved, model)]
+    faults += [f"docs/MODEL.md: {it}" for it in law_faults(model)]
     for it in faults:
         print("tools/named.py:", it)
     return 1 if faults else 0
 
 
 if __name__ == "__main__":
-    sys.exit(main())
+    sys.exit(main(sys.argv[1:]))

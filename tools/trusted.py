@@ -26,6 +26,7 @@ LANGUAGE = ("⊥", "⊤", "Unit", "tt", "absurd")
 PARTS = (
     ("The clauses", "what a call may answer, send and leave, for each word", (
         ("utm_cli", "Answers Promise PromiseTwo Doing DoingTwo"),
+        ("call_ends", "Stops LawfulRuns"),
         ("call_parts", "Requests Asking Words Opening Leaving LeavingTwo"),
         ("refusals", "Statuses Lines"),
     )),
@@ -79,45 +80,41 @@ PARTS = (
 
 INTRODUCTION = """# What has to be read
 
-What `utm_twin`, the one call of the program, promises is what its clauses say. They are the record `AnswersTwo` of
-utm_cli, in words that are defined elsewhere; the clauses of `utm` are among them, as `AnswersOne`. Who has read the
-definitions that these clauses reach, down to the words of the kit, knows what is promised. [PROVED](PROVED.md) says it
-in words.
+What the one call of the program, `utm_twin`, promises is what its clauses say: the record `AnswersTwo` of utm_cli, with
+the clauses of `utm` as `AnswersOne`. Who has read the definitions that these reach, down to the words of the kit, knows
+what is promised.
 
 {sums}
 
     python3 tools/trusted.py --list
 
-prints each of these definitions with its file and its lines, and the {kit} words of the kit that they use.
+prints each definition with its file and its lines, the sums of each crate, and the {kit} words of the kit.
 
-The rest of `specs/` and all of `proofs/` are lemmas with their proofs, and definitions that only lemmas and inner calls
-name. The prover checks them: what does not follow is refused. So they need not be read, and need not be trusted.
-Neither does a body of a function. In `specs/` a file has definitions alone, or its name ends in `Laws`; what has to be
-read is in files without lemmas, but for the lemmas named below.
-
-`main` in utm/src/main.rt, which hands the words to `utm_twin` and ends with its status, is no part of the list, nor are
-the twin and the room of kd_host, which it hands on: they are trusted ([PROVED](PROVED.md#what-is-trusted)).
+The rest of `specs/`, all of `proofs/`, and the bodies of functions are checked by the prover, and need not be read or
+trusted. A file of `specs/` has definitions alone, or its name ends in `Laws`; what has to be read is in the former, but
+for the lemmas named below. `main`, and the twin and the room of kd_host, are no part of the list: they are
+[trusted](PROVED.md#what-is-trusted).
 
 ## The order in which to read
 
-From the clauses down. Begin in each crate with the files that are named; they are in its `specs/`. Who asks for one
-promise alone reads its clause in Answers.antt and follows the words of that one.
+From the clauses down; in each crate begin with the files named, which are in its `specs/`. For one promise alone, read
+its clause in Answers.antt and follow its words.
 
-| Part, with its lines | It says | Crates and files to begin with | Definitions | Lines |
+| Part | It says | Crates and files to begin with | Definitions | Lines |
 |---|---|---|---|---|
 {parts}
 
 ## What counts
 
 - Of `utm_twin` its comment, its signature and its clauses.
-- A definition, a record or a data type, with its clauses, helpers and fields, and with the comment right above it. All
-  that it names is reached. What comes after `unfolding` is not, for it says only how a body is checked.
-- A Rust type, and its `impl Model` if it has one, which says what value stands for it. A constant, if a definition
-  names it. A trait, with the clauses of its calls: they are what is asked of a device and of a room.
+- A definition, a record or a data type, with its clauses, helpers and fields, and the comment right above it. All that
+  it names is reached, but for what comes after `unfolding`, which says only how a body is checked.
+- A Rust type, and its `impl Model` if it has one, which says what its value is. A constant, if a definition names it. A
+  trait, with the clauses of its calls: they are what is asked of a device and of a room.
 {lemmas}
 - Empty lines and imports do not count.
 
-`tools/trusted.py` makes this page, and `./test` checks that its sums are right and that it has every crate.
+`tools/trusted.py` makes this page, and `./test` checks it.
 """
 
 SUMS = """In sum there are {} crates, {} definitions and {} lines: {} in `specs/` and {} in `src/`.
@@ -319,16 +316,13 @@ def page_text(finder):
 
 
 def parts_text(reached):
-    """The rows of the parts, a row for each crate."""
+    """The rows of the parts."""
     rows = []
     for place, (part, says, crates) in enumerate(PARTS):
         names = {crate for crate, _ in crates}
-        head = f"{place + 1}. {part}, {lines_in(it for it in reached if it.crate in names)} | {says}"
-        for crate, files in crates:
-            within = [it for it in reached if it.crate == crate]
-            row = f"{crate}: {', '.join(files.split())} | {grouped(len(within))} | {lines_in(within)}"
-            rows.append(f"| {head} | {row} |")
-            head = "|"
+        within = [it for it in reached if it.crate in names]
+        files = "; ".join(f"{crate}: {', '.join(files.split())}" for crate, files in crates)
+        rows.append(f"| {place + 1}. {part} | {says} | {files} | {grouped(len(within))} | {lines_in(within)} |")
     return "\n".join(rows)
 
 
@@ -369,9 +363,9 @@ def grouped(number):
 
 def lemmas_text(lemmas):
     if not lemmas:
-        return "- A lemma, where a reached definition names it. There is none."
+        return "- A lemma, if a reached definition names it. There is none."
     names = [f"`{it.name}` of {it.crate}" for it in sorted(lemmas, key=lambda it: (it.crate, it.name))]
-    text = f"- A lemma, where a reached definition names it. There are {len(lemmas)}: {', '.join(names)}."
+    text = f"- A lemma, if a reached definition names it. There are {len(lemmas)}: {', '.join(names)}."
     return fill(text, 120, subsequent_indent="  ")
 
 

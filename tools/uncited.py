@@ -7,7 +7,7 @@
 
 Found are
 - functions of src/ that are public, and that no other file names but to hand them on; a law, which is there for its
-  clauses alone, only where no document of docs/ names it either;
+  clauses alone, only where neither `tools/named.py --laws` prints it nor a document of docs/ names it;
 - definitions and lemmas of specs/ and proofs/ that no other definition, contract or tactic names; those by which a
   proof answers a goal of the kit, in the folder of its function, are named by the kit;
 - imports of .antt files whose word the file does not use.
@@ -23,6 +23,7 @@ sys.dont_write_bytecode = True
 
 from antt_text import TOP, GHOST_USE, LITERAL, Reader, antt_pages, head_of, parts_of, rust_pages, tokens_of
 from accepted_list import compare, write
+from named import laws_of_sources
 
 LIST = TOP / "tools" / "uncited.txt"
 HEAD = """# What nobody cites today, as tools/uncited.py finds it. A new line is to be avoided, and one that is met by none
@@ -42,7 +43,7 @@ def uncited_functions(pages):
     for relative, found in words.items():
         for word in found:
             files.setdefault(word, set()).add(relative)
-    told = words_of_documents()
+    told = words_of_documents() | {name for _, name in laws_of_sources()}
     return [
         f"{'law' if is_law(page, name) else 'function'} {page.relative}: {name}"
         for page in pages

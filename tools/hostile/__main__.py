@@ -4,8 +4,8 @@
 
 KIND is one of those below, and COUNT how many things of it are tried. The program is the built utm_cases, but for `disks`
 the built utm, and for `laboratory` the built kdcs_lab. What is answered otherwise is printed, where it is one as a case in
-the form of docs/cases.md; the status is 1 then. The last line has how many passed and failed. docs/building.md says what
-each kind makes.
+the form of docs/cases.md; the status is 1 then. The last line has how many passed and failed. The first lines of
+made_KIND.py say what a kind makes and what must be answered.
 """
 
 import argparse

@@ -399,9 +399,11 @@ class Contest:
         self.inputs = [f"IN {terminal} {random.choice('ADD ADD TWO OWT SAY'.split())}" for terminal in ("P1", "P2")]
         self.begins = ["IN P1 KDCSIGN U1", "IN P2 KDCSIGN U2", *self.inputs]
         self.most = random.choice((3, 20, 3000))
+        # The two services have up to 16 turns with an effect, so some RUNs are spent before they are over.
+        self.run = f"RUN {random.choice((4, 7, 10, 14, 100, 100, 100))}"
 
     def case(self):
-        return [f"RESWAIT={self.wait}, explore app {self.most}", *self.begins, "RUN 100"]
+        return [f"RESWAIT={self.wait}, explore app {self.most}", *self.begins, self.run]
 
     def takes(self, folder, script):
         folder.without_file()
@@ -415,7 +417,7 @@ class Contest:
         return folder.call(UTM, "run", "app"), folder.call(UTM, "show", "app")
 
     def tried(self, folder):
-        self.takes(folder, [*self.begins, "RUN 100"])
+        self.takes(folder, [*self.begins, self.run])
         status, lines = folder.call(folder.lab, "explore", "app", str(self.most))
         head = re.match(r"ORDERS ([0-9]+) (ALL|DRAWN FROM 1) OUTCOMES ([0-9]+)$", lines[0] if lines else "")
         if not head:
@@ -429,14 +431,16 @@ class Contest:
         comes_to = [(it["SENT"], it["TABLES"]) for it in found]
         if any(it in comes_to[:place] for place, it in enumerate(comes_to)):
             yield "* two outcomes are the same"
-        stands = any("STANDSTILL" in it["marks"] for it in found)
-        if status != (len(found) > 1 or stands):
+        marked = any("STANDSTILL" in it["marks"] or "SPENT" in it["marks"] for it in found)
+        if status != (len(found) > 1 or marked):
             yield f"* status {status}"
         for it in found:
             ran = self.outcome(folder, it["SCRIPT"])
             if ran != ((0, it["SENT"]), (0, it["TABLES"])):
                 yield f"* by its script utm comes to {ran}, not {it}"
         if head[2] == "ALL":
+            yield from self.rotation(folder, comes_to)
+        if head[2] == "ALL" and self.run == "RUN 100":
             yield from self.others(folder, comes_to)
 
     @staticmethod
@@ -452,6 +456,12 @@ class Contest:
             else:
                 found[-1][part].append(line[2:])
         return found
+
+    def rotation(self, folder, comes_to):
+        """The order that `utm` takes has to come to one of the outcomes."""
+        ran = self.outcome(folder, [*self.begins, self.run])
+        if ran not in [((0, sent), (0, tables)) for sent, tables in comes_to]:
+            yield f"* utm comes to {ran} by its {self.run}, which is none of {comes_to}"
 
     def others(self, folder, comes_to):
         """Some orders of this tool's own have to come to one of the outcomes."""

@@ -28,5 +28,5 @@ pub use made_input::made_report_lines;
 pub use opening::{attach, look, open};
 pub use reading::read_texts;
 pub use refusing::{Cause, refuse_for};
-pub use twin::{look_at_copies, open_copies, refuse_beside};
+pub use twin::{attach_both, look_at_copies, open_copies, refuse_beside};
 pub use words::{Word, base_of, request_of};

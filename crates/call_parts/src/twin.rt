@@ -3,5 +3,5 @@
 mod opening;
 mod refusing;
 
-pub use opening::{look_at_copies, open_copies};
+pub use opening::{attach_both, look_at_copies, open_copies};
 pub use refusing::refuse_beside;

@@ -16,4 +16,4 @@ mod opening;
 pub use error::OpenError;
 pub use fingerprint::fingerprint_of;
 pub use laws::{answers_exclude_each_other, files_have_one_meaning, texts_are_told_apart};
-pub use opening::{limits_of, open_any, open_tables, read_tables};
+pub use opening::{limits_of, open_any, open_tables, read_tables, tables_in};

@@ -5,9 +5,6 @@ ghost use Rattle.kd_device.specs.Device.{Rose};
 use kd_device::Failed;
 use std::io;
 
-/// The name of the program that runs over the files of a KDCFILE.
-pub(crate) const UTM: &str = "utm";
-
 /// The value of a call of the outside. Where it failed, the count rises, and stands still at its type's end; a line on
 /// standard error says which program, file and call it was, and why. If that line fails too, it is passed over.
 pub(crate) fn counted<T: Drop, R: Eprint>(

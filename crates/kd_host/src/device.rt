@@ -3,7 +3,7 @@ ghost use Rattle.std.specs.Prelude.{◌≡◌, ◌≤◌, false};
 ghost use Rattle.std.proofs.lemmas.Bool.{false≢true};
 ghost use Rattle.kd_host.specs.Silent.{device_of};
 
-use crate::disk::DiskFile;
+use crate::disk::{DiskFile, Mode};
 use crate::line::send;
 use crate::spare::Spare;
 use kd_base::OutOfMemory;
@@ -21,6 +21,8 @@ use std::rt::Files;
 #[derive(Drop)]
 pub struct FileDevice<'a, R: Files<File = File> + Print + Eprint + AllocGlobal> {
     rt: &'a R,
+    /// The name of the program, which stands before what is said of a fault.
+    program: &'static str,
     disk: DiskFile,
     line_faults: u64,
     spare: Spare,
@@ -35,15 +37,16 @@ impl<'a, R: Files<File = File> + Print + Eprint + AllocGlobal> Model for FileDev
 }
 
 impl<'a, R: Files<File = File> + Print + Eprint + AllocGlobal> FileDevice<'a, R> {
-    /// A device with no file.
-    pub fn new(rt: &'a R) -> FileDevice<'a, R>
+    /// A device with no file, for a program of this name, with which a line about a fault begins.
+    pub fn new(rt: &'a R, program: &'static str) -> FileDevice<'a, R>
         ensures disk { (device_of result).disk_faults ≡ 0 }
         ensures line { (device_of result).line_faults ≡ 0 }
         ensures told { (device_of result).told ≡ false }
     {
         FileDevice {
             rt,
-            disk: DiskFile::new(rt.alloc()),
+            program,
+            disk: DiskFile::new(rt.alloc(), program, Mode::Whole),
             line_faults: 0,
             spare: Spare::none(),
         }
@@ -86,7 +89,7 @@ impl<'a, R: Files<File = File> + Print + Eprint + AllocGlobal> Device for FileDe
 
     fn emit(&mut self, piece: &[u8]) -> Result<(), Failed> {
         self.spare.spend(piece.len() as u64);
-        send(self.rt, piece, &mut self.line_faults)
+        send(self.rt, self.program, piece, &mut self.line_faults)
     }
 
     ghost holds_now = { λ d told. absurd (false≢true told) };

@@ -2,19 +2,32 @@
 ghost use Rattle.std.specs.Prelude.{◌≡◌, ◌≤◌, length, IfOk, OnErr, OnOk};
 ghost use Rattle.kd_device.specs.Device.{Rose};
 
-use crate::count::{UTM, counted};
+use crate::count::counted;
 use kd_device::Failed;
 use std::alloc::Global;
 use std::fs::{File, OpenOptions, TryLockError};
-use std::io::{ErrorKind, Read, Seek, SeekFrom, Write};
+use std::io::ErrorKind;
 use std::marker::Model;
+use std::os::unix::fs::FileExt;
 use std::rt::Files;
 use std::{fs, io};
+
+/// How a file is attached.
+#[derive(Clone, Copy)]
+pub(crate) enum Mode {
+    /// For reading and writing; one that is not there is made, and one that may not be written is attached for reading.
+    Whole,
+    /// For reading; one that is not there is not made, and is as an empty one.
+    Reading,
+}
 
 /// A file under a name, or none. Until an attach has succeeded, and after one that failed, no file is attached, and each
 /// call fails. Contracts see the count of its faults. Who has attached a file keeps it locked, until this is dropped or
 /// attaches once more.
 pub(crate) struct DiskFile {
+    /// The program's name, which stands before what is said of a fault.
+    program: &'static str,
+    mode: Mode,
     name: String,
     file: Option<Attached>,
     faults: u64,
@@ -22,7 +35,15 @@ pub(crate) struct DiskFile {
 
 impl Drop for DiskFile {
     fn drop(self) {
-        let DiskFile { name, file, faults } = self;
+        let DiskFile {
+            program,
+            mode,
+            name,
+            file,
+            faults,
+        } = self;
+        let _ = program;
+        let _ = mode;
         let _ = name;
         let _ = file;
         let _ = faults;
@@ -37,19 +58,36 @@ impl Model for DiskFile {
     ghost view = { λ d. d.faults };
 }
 
-// A file that is open and locked, and why it can only be read, if so.
+// A file that is open and locked, and why it can only be read, if so; or none of that name, for who only reads.
 #[derive(Drop)]
-struct Attached {
-    file: File,
-    read_only: Option<ErrorKind>,
+enum Attached {
+    Open(File, Option<ErrorKind>),
+    Absent,
+}
+
+// The file of this name.
+fn open<R: Files<File = File>>(rt: &R, name: &[u8], mode: Mode) -> io::Result<Attached> {
+    let Ok(path) = str::from_utf8(name) else {
+        return Err(io::Error::from(ErrorKind::InvalidInput));
+    };
+    match mode {
+        Mode::Whole => open_whole(rt, path),
+        Mode::Reading => open_there(rt, path),
+    }
+}
+
+// The file of this name for reading, or that there is none.
+fn open_there<R: Files<File = File>>(rt: &R, path: &str) -> io::Result<Attached> {
+    match fs::open(rt, path) {
+        Ok(file) => lock_shared(file, ErrorKind::PermissionDenied),
+        Err(error) if error.kind() == ErrorKind::NotFound => Ok(Attached::Absent),
+        Err(error) => Err(error),
+    }
 }
 
 // The file of this name, for reading and writing; it is made where it is not there. One that is refused for writing is
 // opened for reading.
-fn open<R: Files<File = File>>(rt: &R, name: &[u8]) -> io::Result<Attached> {
-    let Ok(path) = str::from_utf8(name) else {
-        return Err(io::Error::from(ErrorKind::InvalidInput));
-    };
+fn open_whole<R: Files<File = File>>(rt: &R, path: &str) -> io::Result<Attached> {
     let opened = OpenOptions::new()
         .read(true)
         .write(true)
@@ -72,10 +110,7 @@ fn in_use() -> io::Error {
 
 fn lock(file: File) -> io::Result<Attached> {
     match file.try_lock() {
-        Ok(()) => Ok(Attached {
-            file,
-            read_only: None,
-        }),
+        Ok(()) => Ok(Attached::Open(file, None)),
         Err(TryLockError::WouldBlock) => Err(in_use()),
         Err(TryLockError::Error(error)) => Err(error),
     }
@@ -85,10 +120,7 @@ fn lock(file: File) -> io::Result<Attached> {
 fn lock_shared(file: File, why: ErrorKind) -> io::Result<Attached> {
     match file.try_lock_shared() {
         Err(TryLockError::WouldBlock) => Err(in_use()),
-        Ok(()) | Err(TryLockError::Error(_)) => Ok(Attached {
-            file,
-            read_only: Some(why),
-        }),
+        Ok(()) | Err(TryLockError::Error(_)) => Ok(Attached::Open(file, Some(why))),
     }
 }
 
@@ -97,13 +129,12 @@ fn not_attached() -> io::Error {
 }
 
 // Fills the buffer from this place, as far as the file goes, and answers how many bytes that are.
-fn read_from<F: Read + Seek>(file: &mut F, at: u64, into: &mut [u8]) -> io::Result<usize>
+fn read_from<F: FileExt>(file: &F, at: u64, into: &mut [u8]) -> io::Result<usize>
     ensures { IfOk result (λ n. n ≤ length into.old) }
 {
-    file.seek(SeekFrom::Start(at))?;
     let mut count = 0;
     while count < into.len() {
-        let read = file.read(&mut into[count..])?;
+        let read = file.read_at(&mut into[count..], at.wrapping_add(count as u64))?;
         if read == 0 {
             break;
         }
@@ -112,27 +143,29 @@ fn read_from<F: Read + Seek>(file: &mut F, at: u64, into: &mut [u8]) -> io::Resu
     Ok(count)
 }
 
-fn write_to(attached: &mut Attached, at: u64, bytes: &[u8]) -> io::Result<()> {
-    if let Some(why) = attached.read_only {
-        return Err(io::Error::from(why));
+fn write_to(attached: &Attached, at: u64, bytes: &[u8]) -> io::Result<()> {
+    match attached {
+        Attached::Open(file, None) => file.write_all_at(bytes, at),
+        Attached::Open(_, Some(why)) => Err(io::Error::from(*why)),
+        Attached::Absent => Err(not_attached()),
     }
-    attached.file.seek(SeekFrom::Start(at))?;
-    attached.file.write_all(bytes)
 }
 
 impl DiskFile {
-    /// No file.
-    pub(crate) fn new(alloc: Global) -> DiskFile
+    /// No file, for a program of this name.
+    pub(crate) fn new(alloc: Global, program: &'static str, mode: Mode) -> DiskFile
         ensures { result ≡ 0 }
     {
         DiskFile {
+            program,
+            mode,
             name: String::new(alloc),
             file: None,
             faults: 0,
         }
     }
 
-    /// The file of this name is attached from now on; it is made where it is not there.
+    /// The file of this name is attached from now on, in the mode that there is.
     pub(crate) fn attach<R: Files<File = File> + Eprint>(
         &mut self,
         rt: &R,
@@ -146,8 +179,8 @@ impl DiskFile {
         self.name.clear();
         // Where memory is short, faults are said without the name.
         let _ = self.name.push_str(str::from_utf8(name).unwrap_or_default());
-        let file = open(rt, name);
-        self.file = Some(counted(rt, UTM, &self.name, "open", file, &mut self.faults)?);
+        let file = open(rt, name, self.mode);
+        self.file = Some(counted(rt, self.program, &self.name, "open", file, &mut self.faults)?);
         Ok(())
     }
 
@@ -158,10 +191,11 @@ impl DiskFile {
         ensures later { self.old ≤ self.new }
     {
         let size = match &self.file {
-            Some(attached) => attached.file.metadata().map(|metadata| metadata.len()),
+            Some(Attached::Open(file, _)) => file.metadata().map(|metadata| metadata.len()),
+            Some(Attached::Absent) => Ok(0),
             None => Err(not_attached()),
         };
-        counted(rt, UTM, &self.name, "size", size, &mut self.faults)
+        counted(rt, self.program, &self.name, "size", size, &mut self.faults)
     }
 
     /// Fills the buffer from this place, as far as the file goes, and answers how many bytes that are.
@@ -176,11 +210,19 @@ impl DiskFile {
         ensures fine { OnOk result (self.new ≡ self.old) }
         ensures later { self.old ≤ self.new }
     {
-        let count = match &mut self.file {
-            Some(attached) => read_from(&mut attached.file, at, into),
+        let count = match &self.file {
+            Some(Attached::Open(file, _)) => read_from(file, at, into),
+            Some(Attached::Absent) => Ok(0),
             None => Err(not_attached()),
         };
-        counted(rt, UTM, &self.name, "read", count, &mut self.faults)
+        counted(
+            rt,
+            self.program,
+            &self.name,
+            "read",
+            count,
+            &mut self.faults,
+        )
     }
 
     /// Writes over what is there and past the end.
@@ -194,23 +236,38 @@ impl DiskFile {
         ensures fine { OnOk result (self.new ≡ self.old) }
         ensures later { self.old ≤ self.new }
     {
-        let written = match &mut self.file {
+        let written = match &self.file {
             Some(attached) => write_to(attached, at, bytes),
             None => Err(not_attached()),
         };
-        counted(rt, UTM, &self.name, "write", written, &mut self.faults)
+        counted(
+            rt,
+            self.program,
+            &self.name,
+            "write",
+            written,
+            &mut self.faults,
+        )
     }
 
-    /// Content and length are durable after it.
+    /// Content and length are durable after it; of what else is kept of a file, as its times, nothing is said.
     pub(crate) fn sync<R: Eprint>(&mut self, rt: &R) -> Result<(), Failed>
         ensures failed { OnErr result (Rose self.old self.new) }
         ensures fine { OnOk result (self.new ≡ self.old) }
         ensures later { self.old ≤ self.new }
     {
         let synced = match &self.file {
-            Some(attached) => attached.file.sync_all(),
+            Some(Attached::Open(file, _)) => file.sync_data(),
+            Some(Attached::Absent) => Ok(()),
             None => Err(not_attached()),
         };
-        counted(rt, UTM, &self.name, "sync", synced, &mut self.faults)
+        counted(
+            rt,
+            self.program,
+            &self.name,
+            "sync",
+            synced,
+            &mut self.faults,
+        )
     }
 }

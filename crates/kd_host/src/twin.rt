@@ -3,7 +3,7 @@ ghost use Rattle.std.specs.Prelude.{◌≡◌, ◌≤◌, false};
 ghost use Rattle.std.proofs.lemmas.Bool.{false≢true};
 ghost use Rattle.kd_host.specs.Silent.{both_of};
 
-use crate::disk::DiskFile;
+use crate::disk::{DiskFile, Mode};
 use crate::line::send;
 use crate::spare::Spare;
 use kd_base::OutOfMemory;
@@ -18,6 +18,8 @@ use std::rt::Files;
 #[derive(Drop)]
 pub struct FileTwin<'a, R: Files<File = File> + Print + Eprint + AllocGlobal> {
     rt: &'a R,
+    /// The name of the program, which stands before what is said of a fault.
+    program: &'static str,
     first: DiskFile,
     second: DiskFile,
     line_faults: u64,
@@ -33,8 +35,29 @@ impl<'a, R: Files<File = File> + Print + Eprint + AllocGlobal> Model for FileTwi
 }
 
 impl<'a, R: Files<File = File> + Print + Eprint + AllocGlobal> FileTwin<'a, R> {
-    /// A twin with no file.
-    pub fn new(rt: &'a R) -> FileTwin<'a, R>
+    /// A twin with no file, for a program of this name, with which a line about a fault begins. An attach makes a file that
+    /// is not there.
+    pub fn new(rt: &'a R, program: &'static str) -> FileTwin<'a, R>
+        ensures first { (both_of result).first.disk_faults ≡ 0 }
+        ensures second { (both_of result).second.disk_faults ≡ 0 }
+        ensures line { (both_of result).line_faults ≡ 0 }
+        ensures told { (both_of result).told ≡ false }
+    {
+        FileTwin::attaching(rt, program, Mode::Whole)
+    }
+
+    /// The same for a program that only reads: an attach makes no file, one that is not there is as an empty one, and each
+    /// write fails. Others who only read may have the same files.
+    pub fn reading(rt: &'a R, program: &'static str) -> FileTwin<'a, R>
+        ensures first { (both_of result).first.disk_faults ≡ 0 }
+        ensures second { (both_of result).second.disk_faults ≡ 0 }
+        ensures line { (both_of result).line_faults ≡ 0 }
+        ensures told { (both_of result).told ≡ false }
+    {
+        FileTwin::attaching(rt, program, Mode::Reading)
+    }
+
+    fn attaching(rt: &'a R, program: &'static str, mode: Mode) -> FileTwin<'a, R>
         ensures first { (both_of result).first.disk_faults ≡ 0 }
         ensures second { (both_of result).second.disk_faults ≡ 0 }
         ensures line { (both_of result).line_faults ≡ 0 }
@@ -42,8 +65,9 @@ impl<'a, R: Files<File = File> + Print + Eprint + AllocGlobal> FileTwin<'a, R> {
     {
         FileTwin {
             rt,
-            first: DiskFile::new(rt.alloc()),
-            second: DiskFile::new(rt.alloc()),
+            program,
+            first: DiskFile::new(rt.alloc(), program, mode),
+            second: DiskFile::new(rt.alloc(), program, mode),
             line_faults: 0,
             spare: Spare::none(),
         }
@@ -103,7 +127,7 @@ impl<'a, R: Files<File = File> + Print + Eprint + AllocGlobal> Twin for FileTwin
 
     fn emit(&mut self, piece: &[u8]) -> Result<(), Failed> {
         self.spare.spend(piece.len() as u64);
-        send(self.rt, piece, &mut self.line_faults)
+        send(self.rt, self.program, piece, &mut self.line_faults)
     }
 
     ghost holds_now = { λ w told. absurd (false≢true told) };

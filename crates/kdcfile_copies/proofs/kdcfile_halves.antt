@@ -1,2 +1,2 @@
-mod HalfUsed
+pub mod HalfUsed
 mod LineSent

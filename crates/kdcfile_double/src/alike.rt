@@ -33,7 +33,7 @@ fn same_identity(a: &PagedStore, b: &PagedStore) -> bool
 }
 
 /// Whether two copies have one sequence, were made with the same, and keep the same.
-pub(crate) fn are_alike(a: &LoadedCopy, b: &LoadedCopy) -> bool
+pub fn are_alike(a: &LoadedCopy, b: &LoadedCopy) -> bool
     ensures { IsTrue result ↔ AreSame a.now b.now }
 {
     a.sequence == b.sequence

@@ -17,5 +17,7 @@ mod one_half;
 mod opening;
 mod store;
 
+pub use alike::are_alike;
 pub use error::TwinOpenError;
+pub use opening::opened;
 pub use store::TwinStore;

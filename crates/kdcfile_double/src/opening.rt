@@ -110,8 +110,8 @@ fn read_both<T: Twin>(alloc: Global, twin: &mut T) -> Result<(Found, Found), Twi
     Ok((first, second))
 }
 
-// The store of what was found in two files, and the tables that it keeps.
-fn opened(
+/// The store of what was found in two files, and the tables that it keeps. It reads no file and mends nothing.
+pub fn opened(
     alloc: Global,
     first: Found,
     second: Found,

@@ -1,10 +1,10 @@
 //! `explore`: the distinct outcomes of the orders of the tasks.
-ghost use Rattle.std.specs.{Prelude.{◌≡◌, ◌≤◌, ◌^◌, true, false, cond, IfOk, IfSome, IsTrue, sum_by}, List.{list_any}};
+ghost use Rattle.std.specs.{Prelude.{◌≡◌, ◌≤◌, ◌^◌, true, false, cond, IfOk, IsTrue, sum_by}, List.{list_any}};
 ghost use Rattle.application_types.specs.Fitted.{IsFit};
 ghost use Rattle.laws_of_runs.specs.Applied.{applied};
 ghost use Rattle.laws_of_states.specs.{Keeping.{IsScriptOf}, Suits.{Suits}};
-ghost use Rattle.lab_orders.specs.{Exploring.{AreAll, AreDistinct, AreOutcomes}, Walking.{tries_of}};
-ghost use Rattle.lab_cli.specs.{Exploring.{do_differ, stands_still}, Places.{CanStart}};
+ghost use Rattle.lab_orders.specs.{Exploring.{AreAll, AreDistinct, AreOrdered, AreOutcomes}, Walking.{tries_of}};
+ghost use Rattle.lab_cli.specs.{Exploring.{do_differ, is_spent, stands_still}, Places.{CanStart}};
 
 use crate::reading::Place;
 use crate::stop::Stop;
@@ -17,10 +17,10 @@ use lab_turns::lab_printing::{Console, put_command, put_number};
 use refusals::Status;
 use std::alloc::Global;
 
-/// How many turns the orders of a script may try.
-const MOST_TRIES: u64 = 1_000_000_000_000_000_000;
+/// How many turns and commands an order of a script may have.
+const MOST_TRIES: u64 = 100_000_000_000_000;
 
-/// Orders differ, or a service waits at the end of one.
+/// Orders differ, or a service waits at the end of one, or a RUN of one is spent.
 const DIFFER: Status = Status { code: 1 };
 
 // What was seen in an order of the outcome, a word each.
@@ -36,6 +36,9 @@ fn put_signs(out: &mut Bytes, signs: Signs) -> Result<(), OutOfMemory> {
     }
     if signs.standstill {
         out.append(b" STANDSTILL")?;
+    }
+    if signs.spent {
+        out.append(b" SPENT")?;
     }
     Ok(())
 }
@@ -140,10 +143,22 @@ fn one_stands_still(outcomes: &[Outcome]) -> bool
     outcomes.iter().any(|outcome| stands_still(outcome))
 }
 
+fn is_spent(outcome: &Outcome) -> bool
+    ensures { result ≡ is_spent outcome.now }
+{
+    outcome.signs.spent
+}
+
+fn one_is_spent(outcomes: &[Outcome]) -> bool
+    ensures { result ≡ list_any is_spent outcomes.now }
+{
+    outcomes.iter().any(|outcome| is_spent(outcome))
+}
+
 fn do_differ(outcomes: &[Outcome]) -> bool
     ensures { result ≡ do_differ outcomes.now }
 {
-    outcomes.len() > 1 || one_stands_still(outcomes)
+    outcomes.len() > 1 || one_stands_still(outcomes) || one_is_spent(outcomes)
 }
 
 fn status_of(outcomes: &[Outcome]) -> Status
@@ -156,31 +171,29 @@ fn status_of(outcomes: &[Outcome]) -> Status
     }
 }
 
-// How many turns a command tries at most in an order.
-fn tries_of(command: &Command) -> Option<u64>
-    ensures { IfSome result (λ tries. tries ≡ tries_of command.now) }
+// How many turns and commands a command comes to at most in an order.
+fn tries_of(command: &Command) -> u64
+    ensures { result ≡ tries_of command.now }
 {
     match command {
-        Command::Run(turns) => turns.checked_mul(131_070),
+        Command::Run(turns) => *turns,
         Command::Input(_, _)
         | Command::Tick(_)
         | Command::Turn(_)
         | Command::Drop(_)
         | Command::Print(_)
         | Command::PrintLast(_)
-        | Command::Restart => Some(1),
+        | Command::Restart => 1,
     }
 }
 
-// Whether the turns that an order tries can be counted. Those of a script can.
+// Whether the turns and commands of an order can be counted. Those of a script can.
 fn can_be_counted(commands: &[Command]) -> bool
-    ensures { IsTrue result → sum_by tries_of commands.now ≤ 10 ^ 18 }
+    ensures { IsTrue result → sum_by tries_of commands.now ≤ 10 ^ 14 }
 {
     let mut sum: u64 = 0;
     for command in commands {
-        let Some(tries) = tries_of(command) else {
-            return false;
-        };
+        let tries = tries_of(command);
         if tries > MOST_TRIES - sum {
             return false;
         }
@@ -203,6 +216,7 @@ fn explore_script<C: Console>(
     requires suits { Suits application.generation tables.now }
     requires names { IsScriptOf (applied application.generation application.units) commands.now }
     ensures outcomes { IfOk result (λ e. AreOutcomes (applied application.generation application.units) tables.now commands.now e.outcomes) }
+    ensures orders { IfOk result (λ e. AreOrdered (applied application.generation application.units) tables.now commands.now e.outcomes) }
     ensures all { IfOk result (λ e. e.all ≡ true → AreAll (applied application.generation application.units) tables.now commands.now e.outcomes) }
     ensures distinct { IfOk result (λ e. AreDistinct e.outcomes) }
     ensures counted { IfOk result (λ e. sum_by (λ o. o.orders) e.outcomes ≡ e.orders) }
@@ -221,7 +235,8 @@ fn explore_script<C: Console>(
 
 /// Tries the orders of the tasks: all, where there are at most `most`, and else as many, drawn from this number. It prints
 /// their distinct outcomes: of each how many orders come to it, the script of the shortest of them, what it sends, and the
-/// tables at its end. The status is 1 where there are two outcomes, or a service waits at the end of an order.
+/// tables at its end. The status is 1 where there are two outcomes, where a service waits at the end of an order, and where a
+/// RUN of one is over by its count while a task's turn would still have an effect.
 pub fn explore_orders<C: Console>(
     alloc: Global,
     console: &mut C,
@@ -231,6 +246,7 @@ pub fn explore_orders<C: Console>(
 ) -> Result<(Status, Explored), Stop>
     requires { CanStart place }
     ensures outcomes { IfOk result (λ r. AreOutcomes (applied place.application.generation place.application.units) place.tables place.commands.items r.1.outcomes) }
+    ensures orders { IfOk result (λ r. AreOrdered (applied place.application.generation place.application.units) place.tables place.commands.items r.1.outcomes) }
     ensures all { IfOk result (λ r. r.1.all ≡ true → AreAll (applied place.application.generation place.application.units) place.tables place.commands.items r.1.outcomes) }
     ensures distinct { IfOk result (λ r. AreDistinct r.1.outcomes) }
     ensures counted { IfOk result (λ r. sum_by (λ o. o.orders) r.1.outcomes ≡ r.1.orders) }

@@ -184,9 +184,9 @@ fn do_request<R: Room, C: Console>(
 /// `*>`. No file is made or written.
 ///
 /// The status is 0 where all was done; 1 for words that are none of the forms, for a test whose lines are not met, and where
-/// orders differ or a service waits at the end of one; 2 for a definition or units that are refused; 3 for a script that is
-/// refused; 4 for a KDCFILE that is not one of this application; 5 where the output failed; 6 where a text could not be
-/// read; 7 for want of memory.
+/// orders differ, a service waits at the end of one, or a RUN of one is spent; 2 for a definition or units that are
+/// refused; 3 for a script that is refused; 4 for a KDCFILE that is not one of this application; 5 where the output failed;
+/// 6 where a text could not be read; 7 for want of memory.
 pub fn lab<R: Room, C: Console>(
     alloc: Global,
     words: &[String],

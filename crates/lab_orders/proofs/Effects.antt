@@ -147,3 +147,49 @@ no_effect_no_change app s task sorted e = by (turn_of app s task).moved (same_wa
     by true w em ew e = moved_not e
     by false false em ew e = moved_not e
     by false true em ew e = waited (same_wait_only _ _ ew) (turn_still app s task em)
+
+-- ---- and says nothing
+
+happens_quiet : (app : Application) (s : State) (task : ℕ) (id : ServiceId) (x y : OpenTransaction) (h : Happened) → (happens app s task id x y h).moved ≡ false → (happens app s task id x y h).acts ≡ []
+unfolding happens abnormal
+happens_quiet app s task id x y Went e = moved_not e
+happens_quiet app s task id x y Queued e = moved_not e
+happens_quiet app s task id x y Waited e = refl
+happens_quiet app s task id x y (Held tac) e = moved_not e
+happens_quiet app s task id x y (Settles o) e = moved_not (sym (point_moves app s task id x o) ∙ e)
+happens_quiet app s task id x y (Breaks ending) e = moved_not e
+happens_quiet app s task id x y Returns e = moved_not (sym (back_moves app (without_transaction s task id) id x x.began) ∙ e)
+
+took_quiet : (app : Application) (s : State) (task : ℕ) (o : Option Work) → (took app s task o).moved ≡ false → (took app s task o).acts ≡ []
+took_quiet app s task None e = refl
+took_quiet app s task (Some (work.Service id)) e = moved_not e
+took_quiet app s task (Some (work.Job number)) e = by (job_of s.tables number) e
+  where
+    for : (job : JobValue) (to : Target) → (took_job_for app s task number job to).moved ≡ false → (took_job_for app s task number job to).acts ≡ []
+    for job (Tac tac) e = moved_not e
+    for job (Lterm lterm) e = refl
+
+    by : (o : Option JobValue) → (took_job app s task number o).moved ≡ false → (took_job app s task number o).acts ≡ []
+    by None e = refl
+    by (Some job) e = for job job.to e
+
+turn_quiet : (app : Application) (s : State) (task : ℕ) → (turn_of app s task).moved ≡ false → (turn_of app s task).acts ≡ []
+unfolding turn_of
+turn_quiet app s task e = by (slice_get s.tasks (task - 1)) e
+  where
+    open_by : (id : ServiceId) (o : Option OpenTransaction) → (served app s task id o).moved ≡ false → (served app s task id o).acts ≡ []
+    open_by id None e = refl
+    open_by id (Some x) e = happens_quiet app s task id x (statement_now app s id x).0 (statement_now app s id x).1 e
+
+    by : (o : Option (Option ServiceId)) → (turn_by app s task o).moved ≡ false → (turn_by app s task o).acts ≡ []
+    by None e = refl
+    by (Some None) e = took_quiet app s task (pick app s) e
+    by (Some (Some id)) e = open_by id (find id_cmp id s.active) e
+
+pub no_effect_no_acts : (app : Application) (s : State) (task : ℕ) → has_effect app s task ≡ false → (turn_of app s task).acts ≡ []
+unfolding has_effect
+no_effect_no_acts app s task e = by (turn_of app s task).moved refl e
+  where
+    by : (m : Bool) → (turn_of app s task).moved ≡ m → (m || not (same_wait (wait_in s task) (wait_in (turn_of app s task).after task))) ≡ false → (turn_of app s task).acts ≡ []
+    by true em e = moved_not e
+    by false em e = turn_quiet app s task em

@@ -1,6 +1,6 @@
--- All orders, one after another.
+-- All walks, one after another.
 use Rattle.std.proofs.Common.{◌≡◌, inl, inr, ℕ, List, [], ◌∷◌, ◌++◌, zero, suc, ◌+◌, ◌<◌, ◌≤◌, length, get_or, slice_set, refl, sym, ap, subst, ◌∙◌, arith}
-use Rattle.std.specs.Prelude.{◌⊎◌, All, Option, Some, None}
+use Rattle.std.specs.Prelude.{◌⊎◌, All}
 use Rattle.std.proofs.lemmas.List.Sums.{sum_by-cons}
 use Rattle.kdcs_types.specs.Tables.{TableRows}
 use Rattle.abstract_monitor.specs.declared.command.Command.{Command}
@@ -8,41 +8,16 @@ use Rattle.abstract_monitor.specs.Commands.{started}
 use Rattle.abstract_monitor.specs.State.{Application}
 use Rattle.lab_orders.specs.declared.explored.Outcome.{Outcome}
 use Rattle.lab_orders.specs.declared.search.Found.{Found}
-use Rattle.lab_orders.specs.Beyond.{IsBeyond}
-use Rattle.lab_orders.specs.Exploring.{AreAll, AreDistinct, AreOutcomes, AreSame, IsAdded, IsCounted, IsFirst, IsOther, IsOutcome, IsShown, IsTally, IsThatOf, IsThere, orders_of}
-use Rattle.lab_orders.specs.Finding.{IsFound, LeastBeyond, LeastPast}
-use Rattle.lab_orders.specs.Orders.{HasOutcome, IsOrder}
-
--- each order is shown, or is the next one or beyond it
-abbrev pub Ahead : Application → TableRows → List Command → List Outcome → Option Found → Type 0
-Ahead app t cs outcomes None = AreAll app t cs outcomes
-Ahead app t cs outcomes (Some found) =
-    IsFound app t cs found × ((o : List ℕ) → IsOrder app cs (started app t) o → IsShown app t cs outcomes o ⊎ ((o ≡ found.turns) ⊎ IsBeyond found.turns o))
+use Rattle.lab_orders.specs.Exploring.{AreDistinct, AreOutcomes, AreSame, IsAdded, IsCounted, IsFirst, IsOther, IsOutcome, IsShown, IsTally, IsThatOf, IsThere, orders_of}
+use Rattle.lab_orders.specs.Finding.{IsFound}
+use Rattle.lab_orders.specs.Orders.{HasOutcome}
+use Rattle.lab_orders.specs.Walks.{IsWalk}
 
 -- one outcome more is among them
 pub record Added (app : Application) (t : TableRows) (cs : List Command) (old new : List Outcome) (turns : List ℕ) : Type 0 where
   pub each : AreOutcomes app t cs new
   pub kept : (o : List ℕ) → IsShown app t cs old o → IsShown app t cs new o
   pub there : IsShown app t cs new turns
-
-module _ (app : Application) (t : TableRows) (cs : List Command) where
-  pub ahead_start : (outcomes : List Outcome) → outcomes ≡ [] → (next : Option Found) → LeastPast app t cs [] next → Ahead app t cs outcomes next
-  ahead_start outcomes is None none = absurd (none.0 refl)
-  ahead_start outcomes is (Some found) least = (least.0, λ o w. inr (least.1 o w tt))
-
-  pub ahead_more : (old new : List Outcome) (found : Found) (next : Option Found) → Ahead app t cs old (Some found) → Added app t cs old new found.turns → LeastBeyond app t cs found.turns next → Ahead app t cs new next
-  ahead_more old new found None ahead added none = λ o w. by o w (ahead.1 o w)
-    where
-      by : (o : List ℕ) → IsOrder app cs (started app t) o → IsShown app t cs old o ⊎ ((o ≡ found.turns) ⊎ IsBeyond found.turns o) → IsShown app t cs new o
-      by o w (inl shown) = added.kept o shown
-      by o w (inr (inl same)) = subst (IsShown app t cs new) (sym same) added.there
-      by o w (inr (inr beyond)) = absurd (none o w beyond)
-  ahead_more old new found (Some next) ahead added least = (least.0, λ o w. by o w (ahead.1 o w))
-    where
-      by : (o : List ℕ) → IsOrder app cs (started app t) o → IsShown app t cs old o ⊎ ((o ≡ found.turns) ⊎ IsBeyond found.turns o) → IsShown app t cs new o ⊎ ((o ≡ next.turns) ⊎ IsBeyond next.turns o)
-      by o w (inl shown) = inl (added.kept o shown)
-      by o w (inr (inl same)) = inl (subst (IsShown app t cs new) (sym same) added.there)
-      by o w (inr (inr beyond)) = inr (least.1 o w beyond)
 
 -- ---- one outcome more
 
@@ -55,7 +30,7 @@ module _ (app : Application) (t : TableRows) (cs : List Command) (found : Found)
 
   outcome_found : (y : Outcome) → IsThatOf y found → y.turns ≡ found.turns → IsOutcome app t cs y
   outcome_found y same turns = record {
-    order = subst (IsOrder app cs (started app t)) (sym turns) is.order;
+    walk = subst (IsWalk app cs (started app t)) (sym turns) is.walk;
     outcome_is = subst (λ (o : List ℕ). HasOutcome app cs (started app t) o y.sent y.tables) (sym turns) (of_found y same);
   }
 
@@ -64,7 +39,7 @@ module _ (app : Application) (t : TableRows) (cs : List Command) (found : Found)
     where
       by : (y.turns ≡ x.turns) ⊎ ((y.turns ≡ found.turns) × IsThatOf x found) → IsOutcome app t cs y
       by (inl turns) = record {
-        order = subst (IsOrder app cs (started app t)) (sym turns) h.order;
+        walk = subst (IsWalk app cs (started app t)) (sym turns) h.walk;
         outcome_is = subst (λ (o : List ℕ). HasOutcome app cs (started app t) o y.sent y.tables) (sym turns) (same_outcome app t cs x.turns x y c.sent c.tables h.outcome_is);
       }
       by (inr turns) = outcome_found y same turns.0

@@ -33,7 +33,7 @@ unfolding turned_run
 turn_behind n follows zero behind ne = absurd (ne refl)
 turn_behind n follows (suc t) behind ne = refl
 
-pub none_here : (rest : List ℕ) → length rest ≡ 0 → rest ≡ []
+pub none_here : {X : Type 0} (rest : List X) → length rest ≡ 0 → rest ≡ []
 none_here [] e = refl
 none_here (x ∷ rest) e = absurd (omega (arith, e))
 

@@ -7,17 +7,24 @@ use Rattle.abstract_monitor.specs.State.{Application}
 use Rattle.lab_orders.specs.declared.explored.Explored.{Explored}
 use Rattle.lab_orders.specs.declared.explored.Outcome.{Outcome}
 use Rattle.lab_orders.specs.declared.search.Found.{Found}
+use Rattle.lab_orders.specs.Laws.{IsOrdered}
 use Rattle.lab_orders.specs.Orders.{HasOutcome, IsOrder}
+use Rattle.lab_orders.specs.Walks.{IsWalk}
 
--- the outcome of an order, which it shows
+-- the outcome of a walk, which it shows
 pub record IsOutcome (app : Application) (t : TableRows) (commands : List Command) (outcome : Outcome) : Type 0 where
-  pub order : IsOrder app commands (started app t) outcome.turns
+  pub walk : IsWalk app commands (started app t) outcome.turns
   pub outcome_is : HasOutcome app commands (started app t) outcome.turns outcome.sent outcome.tables
 
 -- each is one
 abbrev pub AreOutcomes : Application → TableRows → List Command → List Outcome → Type 0
 AreOutcomes app t commands [] = Unit {0}
 AreOutcomes app t commands (x ∷ xs) = IsOutcome app t commands x × AreOutcomes app t commands xs
+
+-- the turns that each shows are those with an effect of an order
+abbrev pub AreOrdered : Application → TableRows → List Command → List Outcome → Type 0
+AreOrdered app t commands [] = Unit {0}
+AreOrdered app t commands (x ∷ xs) = IsOrdered app commands (started app t) x.turns × AreOrdered app t commands xs
 
 -- what comes out of an order is among the outcomes
 abbrev pub IsShown : Application → TableRows → List Command → List Outcome → (order : List ℕ) → Type 0
@@ -53,10 +60,14 @@ pub record IsTally (app : Application) (t : TableRows) (commands : List Command)
   pub distinct : AreDistinct outcomes
   pub counted : orders_of outcomes ≡ orders
 
--- of all orders, which are at most so many
-pub record IsOfAllOrders (app : Application) (t : TableRows) (commands : List Command) (most : ℕ) (e : Explored) : Type 0 where
+-- the outcome of each walk is among the outcomes
+abbrev pub AreWalked : Application → TableRows → List Command → List Outcome → Type 0
+AreWalked app t commands outcomes = (walk : List ℕ) → IsWalk app commands (started app t) walk → IsShown app t commands outcomes walk
+
+-- of all walks, which are at most so many
+pub record IsOfAllWalks (app : Application) (t : TableRows) (commands : List Command) (most : ℕ) (e : Explored) : Type 0 where
   pub tally : IsTally app t commands e.orders e.outcomes
-  pub each_order : AreAll app t commands e.outcomes
+  pub each_walk : AreWalked app t commands e.outcomes
   pub all : e.all ≡ true
   pub most_orders : e.orders ≤ most
 

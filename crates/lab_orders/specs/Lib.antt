@@ -1,8 +1,9 @@
 pub mod Orders
-pub mod Beyond
-pub mod Choosing
+pub mod Walks
 pub mod Trying
-pub mod Reaching
 pub mod Walking
+pub mod Searching
+pub mod Drawing
 pub mod Finding
 pub mod Exploring
+pub mod Laws

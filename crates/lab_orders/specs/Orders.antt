@@ -1,5 +1,6 @@
 -- The orders in which the tasks of a script can work, and what comes out of each.
-use Rattle.std.specs.Prelude.{◌≡◌, ℕ, zero, suc, ◌-◌, Bool, true, false, ◌&&◌, ◌||◌, not, ◌==◌, List, [], ◌∷◌, slice_get, Option, Some, None}
+use Rattle.std.specs.Prelude.{◌≡◌, ℕ, zero, suc, ◌-◌, Bool, true, false, ◌&&◌, ◌||◌, not, ◌==◌, List, [], ◌∷◌, slice_get, Option, Some, None, if◌then◌else◌}
+use Rattle.std.specs.List.{list_any}
 use Rattle.std.specs.FinMap.{find}
 use Rattle.application_types.specs.Statements.{IsWithin}
 use Rattle.kdcs_types.specs.declared.key.ServiceId.{ServiceId}
@@ -47,17 +48,32 @@ IsAtRest app s = (task : ℕ) → IsTurn app s task → ⊥
 
 -- ---- orders
 
--- a RUN of at most so many turns makes these, and what follows it takes those behind them; 0 ends a RUN before its last turn, where no task's turn has an effect any more
-unfoldable pub RunsSo : Application → (turns : ℕ) → (State → List ℕ → Type 0) → State → List ℕ → Type 0
-RunsSo app zero Follows s order = Follows s order
-RunsSo app (suc n) Follows s [] = ⊥
-RunsSo app (suc n) Follows s (zero ∷ order) = IsAtRest app s × Follows s order
-RunsSo app (suc n) Follows s (suc t ∷ order) = IsTurn app s (suc t) × RunsSo app n Follows (turn_of app s (suc t)).after order
+-- the task is in the list
+abbrev pub is_in : (task : ℕ) → List ℕ → Bool
+is_in task tasks = list_any (λ t. t == task) tasks
 
--- the turns of all RUNs of a script, one after another: any task's, each with an effect, until the RUN has made all its turns or no task's turn has an effect
+-- a turn of a task other than these, which had turns without effect since the last turn with one
+pub record IsNext (app : Application) (idle : List ℕ) (task : ℕ) : Type 0 where
+  pub within : IsWithin 1 app.generation.limits.tasks task
+  pub other : is_in task idle ≡ false
+
+-- the one where a turn has an effect, else the other
+abbrev pub by_effect : Bool → Type 0 → Type 0 → Type 0
+by_effect true moved idle = moved
+by_effect false moved idle = idle
+
+-- the turns of a RUN of at most so many, and behind them the order of what follows: any task's turn, but a task that found nothing to do, or waits on, has its next one only after a turn with an effect; 0 ends the RUN before its last turn, where no task's turn has an effect any more
+unfoldable pub RunsSo : Application → (turns : ℕ) → (idle : List ℕ) → (State → List ℕ → Type 0) → State → List ℕ → Type 0
+RunsSo app zero idle Follows s order = Follows s order
+RunsSo app (suc n) idle Follows s [] = ⊥
+RunsSo app (suc n) idle Follows s (zero ∷ order) = IsAtRest app s × Follows s order
+RunsSo app (suc n) idle Follows s (suc t ∷ order) =
+    IsNext app idle (suc t) × by_effect (has_effect app s (suc t)) (RunsSo app n [] Follows (turn_of app s (suc t)).after order) (RunsSo app n (suc t ∷ idle) Follows s order)
+
+-- the turns of all RUNs of a script, one after another
 unfoldable pub IsOrder : Application → List Command → State → List ℕ → Type 0
 IsOrder app [] s order = order ≡ []
-IsOrder app (Run turns ∷ cs) s order = RunsSo app turns (IsOrder app cs) s order
+IsOrder app (Run turns ∷ cs) s order = RunsSo app turns [] (IsOrder app cs) s order
 IsOrder app (Input pterm text ∷ cs) s order = IsOrder app cs (command_of app s (Input pterm text)).after order
 IsOrder app (Tick ticks ∷ cs) s order = IsOrder app cs (command_of app s (Tick ticks)).after order
 IsOrder app (Turn task ∷ cs) s order = IsOrder app cs (command_of app s (Turn task)).after order
@@ -65,6 +81,29 @@ IsOrder app (Drop pterm ∷ cs) s order = IsOrder app cs (command_of app s (Drop
 IsOrder app (Print pterm ∷ cs) s order = IsOrder app cs (command_of app s (Print pterm)).after order
 IsOrder app (PrintLast pterm ∷ cs) s order = IsOrder app cs (command_of app s (PrintLast pterm)).after order
 IsOrder app (Restart ∷ cs) s order = IsOrder app cs (command_of app s Restart).after order
+
+-- ---- an order without its turns without effect
+
+-- of a RUN: 0 stands at its end where it is over before so many turns with an effect
+unfoldable pub worked_run : Application → (turns effects : ℕ) → (State → List ℕ → List ℕ) → State → List ℕ → List ℕ
+worked_run app zero zero follows s order = follows s order
+worked_run app zero (suc m) follows s order = 0 ∷ follows s order
+worked_run app (suc n) m follows s [] = []
+worked_run app (suc n) m follows s (zero ∷ order) = 0 ∷ follows s order
+worked_run app (suc n) m follows s (suc t ∷ order) =
+    if has_effect app s (suc t) then suc t ∷ worked_run app n (m - 1) follows (turn_of app s (suc t)).after order else worked_run app n m follows s order
+
+-- of a script
+unfoldable pub worked : Application → List Command → State → List ℕ → List ℕ
+worked app [] s order = []
+worked app (Run turns ∷ cs) s order = worked_run app turns turns (worked app cs) s order
+worked app (Input pterm text ∷ cs) s order = worked app cs (command_of app s (Input pterm text)).after order
+worked app (Tick ticks ∷ cs) s order = worked app cs (command_of app s (Tick ticks)).after order
+worked app (Turn task ∷ cs) s order = worked app cs (command_of app s (Turn task)).after order
+worked app (Drop pterm ∷ cs) s order = worked app cs (command_of app s (Drop pterm)).after order
+worked app (Print pterm ∷ cs) s order = worked app cs (command_of app s (Print pterm)).after order
+worked app (PrintLast pterm ∷ cs) s order = worked app cs (command_of app s (PrintLast pterm)).after order
+worked app (Restart ∷ cs) s order = worked app cs (command_of app s Restart).after order
 
 -- ---- the script with TURN commands in place of RUNs
 

@@ -1,15 +1,16 @@
 //! An order that is drawn at random.
-ghost use Rattle.std.specs.Prelude.{◌≡◌, ◌+◌, ◌*◌, ◌≤◌, ◌^◌, ◌∷◌, [], IfOk, sum_by};
+ghost use Rattle.std.specs.Prelude.{◌+◌, ◌≤◌, ◌^◌, ◌∷◌, [], IfOk, sum_by};
 ghost use Rattle.abstract_monitor.specs.{CommandsOf.{IsCommandOf}, declared.command.Command.TheVariants.{Run}};
 ghost use Rattle.laws_of_runs.specs.Applied.{applied};
-ghost use Rattle.laws_of_states.specs.Keeping.{HasFacts, IsScriptOf};
-ghost use Rattle.lab_orders.specs.{Finding.{CanStart, IsFound}, Trying.{Took}, Walking.{Drew, IsBeside, tries_of}};
+ghost use Rattle.laws_of_states.specs.Keeping.{IsScriptOf};
+ghost use Rattle.lab_orders.specs.{Drawing.{Drew}, Finding.{CanStart, IsFound}, Walking.{IsBeside, tries_of}};
 
-use crate::choice::{Choice, choose};
 use crate::path::Path;
+use crate::resting::Resting;
 use crate::search::{Found, outcome_of};
 use crate::start::begin;
-use crate::walk::do_command;
+use crate::step::do_command;
+use crate::turns::try_turn;
 use abstract_monitor::Command;
 use application_types::generation::Generation;
 use application_types::units::Units;
@@ -17,36 +18,10 @@ use kd_base::OutOfMemory;
 use kdcs_types::Tables;
 use laws_of_states::laws_of_steps::steps_commit_once;
 use monitor_core::Core;
-use rand_core::Rng;
 use rand_xoshiro::SplitMix64;
 use std::alloc::Global;
 
-// A task from 1 to so many.
-fn drawn_task(numbers: &mut SplitMix64, tasks: u16) -> u32 {
-    let some = u64::from(tasks.max(1));
-    (numbers.next_u64() % some) as u32 + 1
-}
-
-// What a RUN does next: the turn of the least task with an effect from a drawn one on, or else of the least of all.
-fn draw(alloc: Global, core: Core, numbers: &mut SplitMix64) -> Result<(Core, Choice), OutOfMemory>
-    requires facts { HasFacts core.application core.state }
-    requires steps { core.steps + 131070 ≤ 10 ^ 18 }
-    ensures took { IfOk result (λ next. Took core next.0 next.1) }
-    ensures steps { IfOk result (λ next. next.0.steps ≤ core.steps + 131070) }
-{
-    let least = drawn_task(numbers, core.tasks());
-    let (core, choice) = choose(alloc, core, least)?;
-    if let Some(choice) = choice {
-        return Ok((core, choice));
-    }
-    let (core, choice) = choose(alloc, core, 0)?;
-    match choice {
-        Some(choice) => Ok((core, choice)),
-        None => unreachable!(),
-    }
-}
-
-// RUN: turns that are drawn.
+// RUN: turns of tasks that are drawn, each of one that does not rest.
 fn drawn_run(
     alloc: Global,
     mut core: Core,
@@ -55,19 +30,31 @@ fn drawn_run(
     turns: u64,
 ) -> Result<Core, OutOfMemory>
     requires beside { IsBeside core path.old }
-    requires steps { core.steps + 131070 * turns ≤ 10 ^ 18 }
+    requires steps { core.steps + turns ≤ 10 ^ 14 }
     ensures drew { IfOk result (λ next. Drew core path.old (Run turns ∷ []) next path.new) }
-    ensures steps { IfOk result (λ next. next.steps ≤ core.steps + 131070 * turns) }
+    ensures steps { IfOk result (λ next. next.steps ≤ core.steps + turns) }
 {
     steps_commit_once();
-    for _turn in 0..turns {
-        let (next, choice) = draw(alloc, core, numbers)?;
-        core = next;
-        let task = choice.task;
-        path.take(choice)?;
-        if task == 0 {
+    let tasks = core.tasks();
+    let mut resting = Resting::none(alloc, tasks)?;
+    let mut effects: u64 = 0;
+    for _made in 0..turns {
+        let Some(task) = resting.draw(numbers) else {
+            path.end_run(false)?;
             return Ok(core);
+        };
+        let (next, did) = try_turn(alloc, core, task)?;
+        core = next;
+        if let Some(did) = did {
+            path.take(task, did)?;
+            resting = Resting::none(alloc, tasks)?;
+            effects += 1;
+        } else {
+            resting.rest(task);
         }
+    }
+    if effects < turns {
+        path.end_run(true)?;
     }
     Ok(core)
 }
@@ -82,7 +69,7 @@ fn drawn_command(
 ) -> Result<Core, OutOfMemory>
     requires beside { IsBeside core path.old }
     requires names { IsCommandOf core.application.generation command.now }
-    requires steps { core.steps + tries_of command.now ≤ 10 ^ 18 }
+    requires steps { core.steps + tries_of command.now ≤ 10 ^ 14 }
     ensures drew { IfOk result (λ next. Drew core path.old (command.now ∷ []) next path.new) }
     ensures steps { IfOk result (λ next. next.steps ≤ core.steps + tries_of command.now) }
 {
@@ -102,7 +89,7 @@ fn drawn_walk(
 ) -> Result<Core, OutOfMemory>
     requires beside { IsBeside core path.old }
     requires names { IsScriptOf core.application commands.now }
-    requires steps { core.steps + sum_by tries_of commands.now ≤ 10 ^ 18 }
+    requires steps { core.steps + sum_by tries_of commands.now ≤ 10 ^ 14 }
     ensures { IfOk result (λ next. Drew core path.old commands.now next path.new) }
 {
     for command in commands {

@@ -1,16 +1,18 @@
 //! All orders of a script, and the distinct outcomes.
 ghost use Rattle.std.specs.Prelude.{◌≡◌, ◌⊎◌, ◌↔◌, ◌+◌, ◌<◌, ◌≤◌, ◌^◌, true, false, All, IsTrue, IfOk, IfSome, MatchOption, OnOk, sum_by};
 ghost use Rattle.laws_of_runs.specs.Applied.{applied};
-ghost use Rattle.lab_orders.specs.{Exploring.{AreAll, AreDistinct, AreOutcomes, IsAdded, IsDrawn, IsThatOf, IsThere, IsOfAllOrders}, Finding.{CanStart}};
+ghost use Rattle.lab_orders.specs.{Exploring.{AreAll, AreDistinct, AreOrdered, AreOutcomes, IsAdded, IsDrawn, IsThatOf, IsThere, IsOfAllWalks}, Finding.{CanStart}};
 
 use crate::draw::drawn_order;
+use crate::laws_of_orders::{orders_are_walked, walks_are_orders};
 use crate::path::{Signs, Turns};
-use crate::search::{Found, order_after, order_past};
+use crate::search::{Found, advance, descend};
 use abstract_monitor::Command;
 use application_types::generation::Generation;
 use application_types::units::Units;
 use kd_base::{Bytes, OutOfMemory, Sequence};
 use kdcs_types::Tables;
+use laws_of_runs::laws_of_applications::fitted_units_make_an_application;
 use rand_core::SeedableRng;
 use rand_xoshiro::SplitMix64;
 use std::alloc::Global;
@@ -157,40 +159,28 @@ type Tried = (Generation, Units, Option<Explored>);
 // All orders, one after another, if they are at most so many.
 fn all_orders(
     alloc: Global,
-    generation: Generation,
-    units: Units,
+    mut generation: Generation,
+    mut units: Units,
     tables: &Tables,
     commands: &[Command],
     most: u64,
 ) -> Result<Tried, OutOfMemory>
     requires { CanStart (applied generation units) tables.now commands.now generation units }
     ensures again { IfOk result (λ n. CanStart (applied generation units) tables.now commands.now n.0 n.1) }
-    ensures whole { IfOk result (λ n. IfSome n.2 (λ e. IsOfAllOrders (applied generation units) tables.now commands.now most e)) }
+    ensures whole { IfOk result (λ n. IfSome n.2 (λ e. IsOfAllWalks (applied generation units) tables.now commands.now most e)) }
 {
     let mut outcomes = Vec::new(alloc);
-    let (mut generation, mut units, mut next) = order_past(
-        alloc,
-        generation,
-        units,
-        tables,
-        commands,
-        &[],
-    )?;
+    let mut frames = Vec::new(alloc);
     for tried in 0..most {
-        let Some(found) = next else {
-            return Ok((generation, units, Some(Explored::all(outcomes, tried))));
-        };
-        let last = found.turns.as_slice();
-        let (g, u, after) = order_after(alloc, generation, units, tables, commands, last)?;
+        let (g, u, found) = descend(alloc, generation, units, tables, commands, &mut frames)?;
         generation = g;
         units = u;
-        next = after;
         add(&mut outcomes, found)?;
+        if !advance(&mut frames)? {
+            return Ok((generation, units, Some(Explored::all(outcomes, tried + 1))));
+        }
     }
-    match next {
-        Some(_) => Ok((generation, units, None)),
-        None => Ok((generation, units, Some(Explored::all(outcomes, most)))),
-    }
+    Ok((generation, units, None))
 }
 
 // So many orders that are drawn.
@@ -234,12 +224,17 @@ pub fn explore(
 ) -> Result<Explored, OutOfMemory>
     requires { CanStart (applied generation units) tables.now commands.now generation units }
     ensures outcomes { IfOk result (λ e. AreOutcomes (applied generation units) tables.now commands.now e.outcomes) }
+    ensures orders { IfOk result (λ e. AreOrdered (applied generation units) tables.now commands.now e.outcomes) }
     ensures all { IfOk result (λ e. e.all ≡ true → AreAll (applied generation units) tables.now commands.now e.outcomes) }
     ensures distinct { IfOk result (λ e. AreDistinct e.outcomes) }
     ensures counted { IfOk result (λ e. sum_by (λ o. o.orders) e.outcomes ≡ e.orders) }
     ensures most { IfOk result (λ e. e.orders ≤ most) }
     ensures drawn { IfOk result (λ e. e.all ≡ false → e.orders ≡ most) }
 {
+    orders_are_walked();
+    walks_are_orders();
+    fitted_units_make_an_application(&generation, &units);
+    let _clock = tables.clock(); // for the proof
     let (generation, units, whole) = all_orders(alloc, generation, units, tables, commands, most)?;
     match whole {
         Some(explored) => Ok(explored),

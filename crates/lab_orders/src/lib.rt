@@ -1,22 +1,26 @@
 //! All orders in which the tasks of a script can work, and what comes out of each.
 //!
 //! It stands on monitor_core, whose core says what each turn and each command does, on monitor_parts, for the listing
-//! of tables, and on rand_xoshiro, by which orders are drawn. To the laboratory, its contract says that each outcome is
-//! that of an order, which it shows: of the script with the TURN commands of this order in place of RUNs; that no two
-//! outcomes are the same, and their numbers add up to the orders that it says it tried; and that where it answers that
-//! it found all orders, each order's outcome is among the outcomes. It knows no file and no device.
+//! of tables, on the laws of states, and on rand_xoshiro, by which orders are drawn. It searches walks, which are orders
+//! without their turns without effect. To the laboratory, its contract says that each outcome is that of a walk, which it
+//! shows: of the script with the TURN commands of this walk in place of RUNs; that each walk is an order without its turns
+//! without effect; that no two outcomes are the same, and their numbers add up to the orders that it says it tried; and
+//! that where it answers that it found all orders, each order's outcome is among the outcomes, whichever turns without
+//! effect it has (`laws_of_orders`). It knows no file and no device.
 #![tactic(auto)]
 
-mod choice;
 mod draw;
 mod explored;
-mod guide;
+mod frame;
+pub mod laws_of_orders;
 mod path;
+mod reach;
+mod resting;
 mod script;
 mod search;
 mod start;
+mod step;
 mod turns;
-mod walk;
 
 pub use explored::{Explored, Outcome, explore};
 pub use path::{Signs, Turns};

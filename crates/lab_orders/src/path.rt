@@ -3,15 +3,14 @@ ghost use Rattle.std.specs.Prelude.{◌≡◌, ◌++◌, ◌∷◌, [], OnOk};
 ghost use Rattle.abstract_monitor.specs.Trace.{bytes_of, tables_after};
 ghost use Rattle.monitor_core.specs.Keeping.{AreKept};
 
-use crate::choice::Choice;
 use kd_base::{Bytes, OutOfMemory, Sequence};
 use kdcs_types::{Act, Acts, Code, Ending, Note, Settled, Tables};
-use monitor_core::Core;
 use monitor_core::script_run::keep_commits;
+use monitor_core::{Core, Turned};
 use std::alloc::Global;
 
-/// The turns of all RUNs of a script, one after another, each the number of its task. 0 ends a RUN before its last turn,
-/// where no task's turn has an effect any more.
+/// The turns of all RUNs of a script that have an effect, one after another, each the number of its task. 0 ends a RUN that
+/// is over before it had so many.
 pub type Turns = Sequence<u16>;
 
 /// What is worth a look in an order.
@@ -25,6 +24,8 @@ pub struct Signs {
     pub dump: bool,
     /// A service waits at the end.
     pub standstill: bool,
+    /// A RUN was over by its count, and a task's turn would still have had an effect.
+    pub spent: bool,
 }
 
 impl Signs {
@@ -35,6 +36,7 @@ impl Signs {
             k05: false,
             dump: false,
             standstill: false,
+            spent: false,
         }
     }
 
@@ -45,6 +47,7 @@ impl Signs {
             k05: self.k05 || other.k05,
             dump: self.dump || other.dump,
             standstill: self.standstill || other.standstill,
+            spent: self.spent || other.spent,
         }
     }
 
@@ -129,14 +132,25 @@ impl Path {
         send(&mut self.sent, acts.as_slice())
     }
 
-    /// A turn of a RUN was done, or 0 ended it.
-    pub(crate) fn take(&mut self, choice: Choice) -> Result<(), OutOfMemory>
-        requires { AreKept choice.acts }
-        ensures turns { OnOk result (self.new.turns ≡ self.old.turns ++ choice.task ∷ []) }
-        ensures sent { OnOk result (self.new.sent ≡ self.old.sent ++ bytes_of choice.acts) }
-        ensures durable { OnOk result (self.new.durable ≡ tables_after self.old.durable choice.acts) }
+    /// A turn of a RUN was done.
+    pub(crate) fn take(&mut self, task: u16, did: Turned) -> Result<(), OutOfMemory>
+        requires { AreKept did.acts }
+        ensures turns { OnOk result (self.new.turns ≡ self.old.turns ++ task ∷ []) }
+        ensures sent { OnOk result (self.new.sent ≡ self.old.sent ++ bytes_of did.acts) }
+        ensures durable { OnOk result (self.new.durable ≡ tables_after self.old.durable did.acts) }
     {
-        self.turns.push(choice.task)?;
-        self.keep(choice.acts, &choice.settled)
+        let Turned { acts, settled, .. } = did;
+        self.turns.push(task)?;
+        self.keep(acts, &settled)
+    }
+
+    /// 0 ends a RUN, by its count or because no turn has an effect any more.
+    pub(crate) fn end_run(&mut self, is_spent: bool) -> Result<(), OutOfMemory>
+        ensures turns { OnOk result (self.new.turns ≡ self.old.turns ++ 0 ∷ []) }
+        ensures sent { self.new.sent ≡ self.old.sent }
+        ensures durable { self.new.durable ≡ self.old.durable }
+    {
+        self.signs.spent |= is_spent;
+        self.turns.push(0)
     }
 }

@@ -1,12 +1,17 @@
-//! The orders of a script, one after another.
-ghost use Rattle.std.specs.Prelude.{◌≡◌, IfOk};
+//! The walks of a script, one after another, the first choice first.
+ghost use Rattle.std.specs.Prelude.{◌≡◌, ◌⊎◌, ◌+◌, ◌*◌, ◌≤◌, ◌^◌, true, false, All, [], IfOk, IsTrue, OnOk, sum_by};
+ghost use Rattle.abstract_monitor.specs.{Commands.{started}, Listing.{listing}};
 ghost use Rattle.laws_of_runs.specs.Applied.{applied};
-ghost use Rattle.abstract_monitor.specs.Listing.{listing};
-ghost use Rattle.lab_orders.specs.Finding.{CanStart, LeastBeyond, LeastPast};
+ghost use Rattle.laws_of_states.specs.Keeping.{HasFacts};
+ghost use Rattle.lab_orders.specs.Finding.{AdvancedOrNot, AreTried, CanStart, Descended, IsSame, SawIt};
+ghost use Rattle.lab_orders.specs.Searching.{CanGo, IsFrame, IsTaken, IsWay, state_at, turns_in};
+ghost use Rattle.lab_orders.specs.Walking.{tries_of};
+ghost use Rattle.lab_orders.specs.Walks.{InRun, IsEnd, stand};
 
+use crate::frame::{Frame, turns_of};
 use crate::path::{Path, Signs, Turns};
-use crate::start::begin;
-use crate::walk::walk;
+use crate::reach::{Place, reach};
+use crate::turns::try_effect;
 use abstract_monitor::Command;
 use application_types::generation::Generation;
 use application_types::units::Units;
@@ -16,7 +21,7 @@ use monitor_core::Core;
 use monitor_parts::output_lines::table_lines;
 use std::alloc::Global;
 
-/// An order, and what came out of it.
+/// A walk, and what came out of it.
 #[derive(Drop)]
 pub(crate) struct Found {
     pub(crate) turns: Turns,
@@ -26,10 +31,13 @@ pub(crate) struct Found {
     pub(crate) signs: Signs,
 }
 
-/// A generation and its units, and an order, if there is one.
-pub(crate) type Next = (Generation, Units, Option<Found>);
+/// Where some turns lead: to an end, or to what can be next.
+enum Seen {
+    Ended(Found),
+    Open(Frame),
+}
 
-/// What came out of an order.
+/// What came out of turns.
 pub(crate) fn outcome_of(alloc: Global, core: &Core, path: Path) -> Result<Found, OutOfMemory>
     ensures turns { IfOk result (λ f. f.turns ≡ path.turns) }
     ensures sent { IfOk result (λ f. f.sent ≡ path.sent) }
@@ -45,54 +53,174 @@ pub(crate) fn outcome_of(alloc: Global, core: &Core, path: Path) -> Result<Found
     })
 }
 
-/// The least order past the guide, if there is one that shares all but its last turn.
-pub(crate) fn order_past(
+// The monitor again as the turns leave it.
+fn again(
+    alloc: Global,
+    core: Core,
+    tables: &Tables,
+    commands: &[Command],
+    frames: &[Frame],
+) -> Result<Core, OutOfMemory>
+    requires go { CanGo core.application tables.now commands.now }
+    requires way { IsWay core.application commands.now (started core.application tables.now) frames.now }
+    ensures application { IfOk result (λ next. next.application ≡ core.application) }
+    ensures state { IfOk result (λ next. state_at (stand core.application commands.now (started core.application tables.now) (turns_in frames.now)) ≡ next.state) }
+    ensures facts { IfOk result (λ next. HasFacts next.application next.state) }
+    ensures steps { IfOk result (λ next. next.steps ≤ sum_by tries_of commands.now) }
+{
+    let (generation, units) = core.into_application();
+    let (core, _path, _place) = reach(alloc, generation, units, tables, commands, frames)?;
+    Ok(core)
+}
+
+// Which tasks have turns with an effect here, and how many have none.
+fn try_tasks(
+    alloc: Global,
+    mut core: Core,
+    tables: &Tables,
+    commands: &[Command],
+    frames: &[Frame],
+) -> Result<(Core, Turns, u16), OutOfMemory>
+    requires facts { HasFacts core.application core.state }
+    requires here { state_at (stand core.application commands.now (started core.application tables.now) (turns_in frames.now)) ≡ core.state }
+    requires steps { core.steps ≤ sum_by tries_of commands.now }
+    requires go { CanGo core.application tables.now commands.now }
+    requires way { IsWay core.application commands.now (started core.application tables.now) frames.now }
+    ensures same { IfOk result (λ r. IsSame core r.0) }
+    ensures tried { IfOk result (λ r. AreTried core.application core.state r.1 r.2) }
+{
+    let mut choices = Turns::new(alloc);
+    let mut idle: u16 = 0;
+    let tasks = core.tasks();
+    for at in 0..tasks {
+        let task = at + 1;
+        let (next, moved) = try_effect(alloc, core, task)?;
+        if moved {
+            choices.push(task)?;
+            core = again(alloc, next, tables, commands, frames)?;
+        } else {
+            idle += 1;
+            core = next;
+        }
+    }
+    Ok((core, choices, idle))
+}
+
+// Whether 0 can be next: no turn has an effect, or all are spent with as many without effect as there may have been.
+fn ends(choices: &[u16], left: u64, idle: u64) -> bool
+    ensures yes { result ≡ true → (choices.now ≡ []) ⊎ (left + 1 ≤ idle) }
+    ensures no { result ≡ false → (choices.now ≡ [] → ⊥) × (idle ≤ left) }
+{
+    choices.is_empty() || left < idle
+}
+
+// What can be next in a RUN with so many turns left behind it, and so many without effect before.
+fn open(
+    alloc: Global,
+    core: Core,
+    tables: &Tables,
+    commands: &[Command],
+    frames: &[Frame],
+    left: u64,
+    room: u64,
+) -> Result<(Core, Frame), OutOfMemory>
+    requires facts { HasFacts core.application core.state }
+    requires here { stand core.application commands.now (started core.application tables.now) (turns_in frames.now) ≡ InRun left room core.state }
+    requires room { room ≤ 7 * 10 ^ 18 }
+    requires steps { core.steps ≤ sum_by tries_of commands.now }
+    requires go { CanGo core.application tables.now commands.now }
+    requires way { IsWay core.application commands.now (started core.application tables.now) frames.now }
+    ensures application { IfOk result (λ r. r.0.application ≡ core.application) }
+    ensures frame { IfOk result (λ r. IsFrame core.application (InRun left room core.state) r.1) }
+    ensures first { IfOk result (λ r. r.1.at ≡ 0) }
+{
+    let (core, mut choices, idle) = try_tasks(alloc, core, tables, commands, frames)?;
+    if ends(choices.as_slice(), left, room + u64::from(idle)) {
+        choices.push(0)?;
+    }
+    let frame = Frame {
+        choices,
+        at: 0,
+        idle,
+    };
+    Ok((core, frame))
+}
+
+// Where the turns lead.
+fn see(
     alloc: Global,
     generation: Generation,
     units: Units,
     tables: &Tables,
     commands: &[Command],
-    guide: &[u16],
-) -> Result<Next, OutOfMemory>
-    requires { CanStart (applied generation units) tables.now commands.now generation units }
+    frames: &[Frame],
+) -> Result<(Generation, Units, Seen), OutOfMemory>
+    requires start { CanStart (applied generation units) tables.now commands.now generation units }
+    requires way { IsWay (applied generation units) commands.now (started (applied generation units) tables.now) frames.now }
     ensures again { IfOk result (λ n. CanStart (applied generation units) tables.now commands.now n.0 n.1) }
-    ensures order { IfOk result (λ n. LeastPast (applied generation units) tables.now commands.now guide.now n.2) }
+    ensures saw { IfOk result (λ n. SawIt (applied generation units) commands.now tables.now frames.now n.2) }
 {
-    let (core, mut path) = begin(alloc, generation, units, tables)?;
-    let (core, whole) = walk(alloc, core, &mut path, commands, guide)?;
-    let order = if whole {
-        Some(outcome_of(alloc, &core, path)?)
-    } else {
-        None
-    };
-    let (generation, units) = core.into_application();
-    Ok((generation, units, order))
+    let (core, mut path, place) = reach(alloc, generation, units, tables, commands, frames)?;
+    match place {
+        Place::Ended => {
+            path.turns = turns_of(alloc, frames)?;
+            let found = outcome_of(alloc, &core, path)?;
+            let (generation, units) = core.into_application();
+            Ok((generation, units, Seen::Ended(found)))
+        }
+        Place::Inside(left, room) => {
+            let (core, frame) = open(alloc, core, tables, commands, frames, left, room)?;
+            let (generation, units) = core.into_application();
+            Ok((generation, units, Seen::Open(frame)))
+        }
+    }
 }
 
-/// The order after this one, if there is one: at the last place where a greater task's turn has an effect, the least such.
-pub(crate) fn order_after(
+/// From these turns on to an end, by the first choice each time.
+pub(crate) fn descend(
     alloc: Global,
     mut generation: Generation,
     mut units: Units,
     tables: &Tables,
     commands: &[Command],
-    last: &[u16],
-) -> Result<Next, OutOfMemory>
-    requires { CanStart (applied generation units) tables.now commands.now generation units }
+    frames: &mut Vec<Frame>,
+) -> Result<(Generation, Units, Found), OutOfMemory>
+    requires start { CanStart (applied generation units) tables.now commands.now generation units }
+    requires way { IsWay (applied generation units) commands.now (started (applied generation units) tables.now) frames.old.items }
     ensures again { IfOk result (λ n. CanStart (applied generation units) tables.now commands.now n.0 n.1) }
-    ensures order { IfOk result (λ n. LeastBeyond (applied generation units) tables.now commands.now last.now n.2) }
+    ensures descended { IfOk result (λ n. Descended (applied generation units) tables.now commands.now frames.old.items frames.new.items n.2) }
 {
-    let mut guide = last;
-    while let Some((_, before)) = guide.split_last() {
-        let (next_generation, next_units, order) = order_past(
-            alloc, generation, units, tables, commands, guide,
+    for _deeper in 0..u64::MAX {
+        let (g, u, seen) = see(
+            alloc,
+            generation,
+            units,
+            tables,
+            commands,
+            frames.as_slice(),
         )?;
-        generation = next_generation;
-        units = next_units;
-        if order.is_some() {
-            return Ok((generation, units, order));
+        generation = g;
+        units = u;
+        match seen {
+            Seen::Ended(found) => return Ok((generation, units, found)),
+            Seen::Open(frame) => frames.push(frame)?,
         }
-        guide = before;
     }
-    Ok((generation, units, None))
+    unreachable!()
+}
+
+/// The next choice at the last place where there is one. False where there is none.
+pub(crate) fn advance(frames: &mut Vec<Frame>) -> Result<bool, OutOfMemory>
+    ensures { IfOk result (λ more. AdvancedOrNot frames.old.items frames.new.items more) }
+{
+    while let Some(frame) = frames.pop() {
+        if frame.at < frame.choices.len().saturating_sub(1) {
+            frames.push(Frame {
+                at: frame.at + 1,
+                ..frame
+            })?;
+            return Ok(true);
+        }
+    }
+    Ok(false)
 }

@@ -2,7 +2,7 @@
 ghost use Rattle.std.specs.Prelude.{◌≡◌, ◌+◌, ◌<◌, ◌^◌, IfOk};
 ghost use Rattle.application_types.specs.Statements.{IsWithin};
 ghost use Rattle.laws_of_states.specs.Keeping.{HasFacts};
-ghost use Rattle.lab_orders.specs.{Orders.{same_wait, wait_in}, Trying.{Tried}};
+ghost use Rattle.lab_orders.specs.{Orders.{same_wait, wait_in}, Trying.{Tried, TriedEffect}};
 
 use kd_base::OutOfMemory;
 use kdcs_types::Area;
@@ -51,4 +51,16 @@ pub(crate) fn try_turn(
     } else {
         Ok((next, None))
     }
+}
+
+/// The same, and only whether it had an effect.
+pub(crate) fn try_effect(alloc: Global, core: Core, task: u16) -> Result<(Core, bool), OutOfMemory>
+    requires facts { HasFacts core.application core.state }
+    requires task { IsWithin 1 core.application.generation.limits.tasks task }
+    requires steps { core.steps < 10 ^ 18 }
+    ensures tried { IfOk result (λ next. TriedEffect core task next.0 next.1) }
+    ensures steps { IfOk result (λ next. next.0.steps ≡ core.steps + 1) }
+{
+    let (next, did) = try_turn(alloc, core, task)?;
+    Ok((next, did.is_some()))
 }

@@ -32,7 +32,7 @@ fn main(rt: HostRuntime) -> ExitCode {
         return ExitCode::from(NO_ANSWER);
     };
     let mut room = FolderRoom::new(&rt, "live");
-    let mut twin = FileTwin::new(&rt);
+    let mut twin = FileTwin::new(&rt, "live");
     let is_prompted = rt.stdin().is_terminal() && rt.stdout().is_terminal();
     let mut typing = StandardTyping::new(&rt, rt.reader(), is_prompted);
     let status = live(rt.alloc(), &words, &mut room, &mut twin, &mut typing);

@@ -32,34 +32,34 @@ use Rattle.live_cli.specs.Promise.{IsIdle, IsNoBase, LiveMisses, LiveReads, live
 usage_code : (n : ℕ) → IsOneOf (1 ∷ 5 ∷ 7 ∷ []) n → IsOneOf (0 ∷ 1 ∷ 2 ∷ 4 ∷ 5 ∷ 6 ∷ 7 ∷ []) n
 usage_code n h = grind (arith, nat_tests)
 
-usage_not : (n k : ℕ) → IsOneOf (1 ∷ 5 ∷ 7 ∷ []) n → IsOneOf (0 ∷ 2 ∷ 4 ∷ 6 ∷ []) k → n ≡ k → ⊥
+pub usage_not : (n k : ℕ) → IsOneOf (1 ∷ 5 ∷ 7 ∷ []) n → IsOneOf (0 ∷ 2 ∷ 4 ∷ 6 ∷ []) k → n ≡ k → ⊥
 usage_not n k h other is = grind (arith, nat_tests)
 
 usage_none : (n : ℕ) → IsOneOf (1 ∷ 5 ∷ 7 ∷ []) n → IsOneOf (0 ∷ 4 ∷ []) n → ⊥
 usage_none n h is = grind (arith, nat_tests)
 
-run_code : (n : ℕ) → IsOneOf (0 ∷ 4 ∷ 5 ∷ 7 ∷ []) n → IsOneOf (0 ∷ 1 ∷ 2 ∷ 4 ∷ 5 ∷ 6 ∷ 7 ∷ []) n
+pub run_code : (n : ℕ) → IsOneOf (0 ∷ 4 ∷ 5 ∷ 7 ∷ []) n → IsOneOf (0 ∷ 1 ∷ 2 ∷ 4 ∷ 5 ∷ 6 ∷ 7 ∷ []) n
 run_code n h = grind (arith, nat_tests)
 
-run_not : (n k : ℕ) → IsOneOf (0 ∷ 4 ∷ 5 ∷ 7 ∷ []) n → IsOneOf (1 ∷ 2 ∷ 6 ∷ []) k → n ≡ k → ⊥
+pub run_not : (n k : ℕ) → IsOneOf (0 ∷ 4 ∷ 5 ∷ 7 ∷ []) n → IsOneOf (1 ∷ 2 ∷ 6 ∷ []) k → n ≡ k → ⊥
 run_not n k h other is = grind (arith, nat_tests)
 
-texts_code : (k n : ℕ) → k ≡ 2 → IsOneOf (k ∷ 5 ∷ 7 ∷ []) n → IsOneOf (2 ∷ 5 ∷ 7 ∷ []) n
+pub texts_code : (k n : ℕ) → k ≡ 2 → IsOneOf (k ∷ 5 ∷ 7 ∷ []) n → IsOneOf (2 ∷ 5 ∷ 7 ∷ []) n
 texts_code k n is h = subst (λ (m : ℕ). IsOneOf (m ∷ 5 ∷ 7 ∷ []) n) is h
 
 two_code : (n : ℕ) → IsOneOf (2 ∷ 5 ∷ 7 ∷ []) n → IsOneOf (0 ∷ 1 ∷ 2 ∷ 4 ∷ 5 ∷ 6 ∷ 7 ∷ []) n
 two_code n h = grind (arith, nat_tests)
 
-two_not : (n k : ℕ) → IsOneOf (2 ∷ 5 ∷ 7 ∷ []) n → IsOneOf (0 ∷ 1 ∷ 4 ∷ 6 ∷ []) k → n ≡ k → ⊥
+pub two_not : (n k : ℕ) → IsOneOf (2 ∷ 5 ∷ 7 ∷ []) n → IsOneOf (0 ∷ 1 ∷ 4 ∷ 6 ∷ []) k → n ≡ k → ⊥
 two_not n k h other is = grind (arith, nat_tests)
 
 two_none : (n : ℕ) → IsOneOf (2 ∷ 5 ∷ 7 ∷ []) n → IsOneOf (0 ∷ 4 ∷ []) n → ⊥
 two_none n h is = grind (arith, nat_tests)
 
-idle_code : (n : ℕ) → IsOneOf (6 ∷ 7 ∷ []) n → IsOneOf (0 ∷ 1 ∷ 2 ∷ 4 ∷ 5 ∷ 6 ∷ 7 ∷ []) n
+pub idle_code : (n : ℕ) → IsOneOf (6 ∷ 7 ∷ []) n → IsOneOf (0 ∷ 1 ∷ 2 ∷ 4 ∷ 5 ∷ 6 ∷ 7 ∷ []) n
 idle_code n h = grind (arith, nat_tests)
 
-idle_not : (n k : ℕ) → IsOneOf (6 ∷ 7 ∷ []) n → k ≤ 5 → n ≡ k → ⊥
+pub idle_not : (n k : ℕ) → IsOneOf (6 ∷ 7 ∷ []) n → k ≤ 5 → n ≡ k → ⊥
 idle_not n k h small is = grind (arith, nat_tests)
 
 idle_none : (n : ℕ) → IsOneOf (6 ∷ 7 ∷ []) n → IsOneOf (0 ∷ 4 ∷ []) n → ⊥
@@ -74,7 +74,7 @@ asked_base {S} bytes given own base is asked = subst (λ (l : List S). base_of (
 pub asked_none : {S : Type 0} (bytes : S → List ℕ) (given own : List S) → given ≡ own → IsNoBase (map bytes given) → IsNoBase (map bytes own)
 asked_none {S} bytes given own is none = subst (λ (l : List S). IsNoBase (map bytes l)) is none
 
-some_base : (words : List (List ℕ)) (base : List ℕ) → base_of words ≡ Some base → IsNoBase words → ⊥
+pub some_base : (words : List (List ℕ)) (base : List ℕ) → base_of words ≡ Some base → IsNoBase words → ⊥
 some_base words base asked none = let differ = sym none ∙ asked in cc
 
 -- what `gen` asks for over one file
@@ -118,7 +118,7 @@ usage_call words r i none a b la lb status h = record {
 -- ---- they are one BASE
 
 module _ (words : List (List ℕ)) (r r' : RoomState) (base : List ℕ) (asked : base_of words ≡ Some base) (same : SameRoom r r') where
-  same_base : (b : List ℕ) → base_of words ≡ Some b → b ≡ base
+  pub same_base : (b : List ℕ) → base_of words ≡ Some b → b ≡ base
   same_base b is = same_Some b base (sym is ∙ asked)
 
   reads_of : (said : Reading) → ReadsFor Gen base r said → LiveReads words r said
@@ -127,7 +127,7 @@ module _ (words : List (List ℕ)) (r r' : RoomState) (base : List ℕ) (asked :
   one_reading : (answer : Reading) → ((said : Reading) → ReadsFor Gen base r said → said ≡ answer) → (said : Reading) → LiveReads words r said → said ≡ answer
   one_reading answer one said h = one said (subst (λ (b : List ℕ). ReadsFor Gen b r said) (same_base h.base h.asked) h.reads)
 
-  not_missed : (said : Reading) → ReadsFor Gen base r said → LiveMisses words r → ⊥
+  pub not_missed : (said : Reading) → ReadsFor Gen base r said → LiveMisses words r → ⊥
   not_missed said h k = by (subst (λ (b : List ℕ). Lacks Gen b r) (same_base k.base k.asked) k.not_there)
     where
       by : Lacks Gen base r → ⊥

@@ -22,7 +22,7 @@ use Rattle.monitor_core.specs.CoreValue.{CoreValue}
 use Rattle.call_parts.specs.Asking.{Errand, app_of}
 use Rattle.call_parts.specs.Opening.{identity_of}
 use Rattle.live_run.specs.Sessions.{AreAnswered}
-use Rattle.live_run.specs.Talking.{AreReadInTurn}
+use Rattle.live_run.specs.Talking.{EachInTurn}
 use Rattle.live_run.specs.Typing.{TypingState}
 use Rattle.live_run.specs.declared.error.LiveError.{LiveError}
 use Rattle.live_cli.specs.Living.{LivedFrom, LivedOut, LivedOver, acts_lived, begun}
@@ -33,12 +33,12 @@ none_ok (Ok x) P Q h = absurd h
 none_ok (Err e) P Q h = tt
 
 module _ (e : Errand) (t : TableRows) (core : CoreValue) (application : core.application ≡ app_of e) (state : core.state ≡ started core.application t) (steps : core.steps ≡ 0) (suits : Suits e.application.generation t) where
-  core_is : core ≡ begun e t
+  pub core_is : core ≡ begun e t
   core_is =
       let here : core.state ≡ started (app_of e) t = state ∙ ap (λ (app : Application). started app t) application in
       λ i. record { application = application i; state = here i; steps = steps i }
 
-  durable_is : durable_of (begun e t) ≡ t
+  pub durable_is : durable_of (begun e t) ≡ t
   durable_is = ap (durable e.application.generation) (started_tables (app_of e) t) ∙ durable_same e.application.generation t suits
 
   pub core_runs : IsApplication core.application → HasFacts core.application core.state → AreLimits core.application.generation.limits → (store : Paged) → KeepsTables (identity_of e) store t → IsRunning e.fingerprint core store
@@ -65,7 +65,7 @@ module _ (e : Errand) (t : TableRows) (core : CoreValue) (application : core.app
 -- no line was read
 module _ (e : Errand) (t : TableRows) (i : TypingState) where
   pub none_from : (a : State) (la : ℕ → List ℕ → List ℕ → Type 0) (result : Result Unit LiveError) (P : LiveError → Type 0) → IsErrAnd result P → LivedFrom e t i a a la la result
-  unfolding AreAnswered AreReadInTurn
+  unfolding AreAnswered EachInTurn
   none_from a la result P error = record {
     exchanges = [];
     answered = tt;

@@ -26,19 +26,19 @@ use Rattle.live_cli.proofs.Opened.{not_opened}
 
 -- ---- statuses
 
-late_code : (n : ℕ) → IsOneOf (5 ∷ 7 ∷ []) n → IsOneOf (0 ∷ 4 ∷ 5 ∷ 7 ∷ []) n
+pub late_code : (n : ℕ) → IsOneOf (5 ∷ 7 ∷ []) n → IsOneOf (0 ∷ 4 ∷ 5 ∷ 7 ∷ []) n
 late_code n late = grind (arith, nat_tests)
 
-late_refusal : (k n : ℕ) → IsOneOf (5 ∷ 7 ∷ []) n → IsOneOf (k ∷ 5 ∷ 7 ∷ []) n
+pub late_refusal : (k n : ℕ) → IsOneOf (5 ∷ 7 ∷ []) n → IsOneOf (k ∷ 5 ∷ 7 ∷ []) n
 late_refusal k n late = grind (arith, nat_tests)
 
-late_not : (n k : ℕ) → IsOneOf (5 ∷ 7 ∷ []) n → k ≤ 4 → n ≡ k → ⊥
+pub late_not : (n k : ℕ) → IsOneOf (5 ∷ 7 ∷ []) n → k ≤ 4 → n ≡ k → ⊥
 late_not n k late small is = grind (arith, nat_tests)
 
-four_code : (n : ℕ) → IsOneOf (4 ∷ 5 ∷ 7 ∷ []) n → IsOneOf (0 ∷ 4 ∷ 5 ∷ 7 ∷ []) n
+pub four_code : (n : ℕ) → IsOneOf (4 ∷ 5 ∷ 7 ∷ []) n → IsOneOf (0 ∷ 4 ∷ 5 ∷ 7 ∷ []) n
 four_code n h = grind (arith, nat_tests)
 
-four_not : (n : ℕ) → IsOneOf (4 ∷ 5 ∷ 7 ∷ []) n → n ≡ 0 → ⊥
+pub four_not : (n : ℕ) → IsOneOf (4 ∷ 5 ∷ 7 ∷ []) n → n ≡ 0 → ⊥
 four_not n h is = grind (arith, nat_tests)
 
 four_is : (n : ℕ) → n ≡ 4 → IsOneOf (4 ∷ 8 ∷ []) n
@@ -82,7 +82,7 @@ module _ (e : Errand) (bytes : List ℕ) where
   refused_once r q (inr other) (inr again) = other.1 ∙ ap (λ (stored : List ℕ). why.OtherGeneration stored) (answer.other_once other.0 again.0 other.2 again.2) ∙ sym again.1
 
 -- what is asked of the end alone, with this status
-abbrev AtEnd : ℕ → Type 0 → Type 0
+abbrev pub AtEnd : ℕ → Type 0 → Type 0
 AtEnd status D = status ≡ 0 → D
 
 whole_weaker : (W V : Type 0 → Type 0) → ((D : Type 0) → W D → V D) → (e : Errand) (t : TableRows) (i : TypingState) (a b : State) (lb : ℕ → List ℕ → List ℕ → Type 0) → LivedWhole W e t i a b lb → LivedWhole V e t i a b lb

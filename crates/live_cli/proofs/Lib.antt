@@ -5,3 +5,9 @@ pub mod Opened
 pub mod Ending
 pub mod Halved
 pub mod Answering
+pub mod OverTwo
+pub mod Bracketed
+pub mod OpenedTwo
+pub mod EndingTwo
+pub mod AnsweringTwo
+pub mod TypedNames

@@ -18,7 +18,7 @@ use Rattle.monitor_core.specs.CoreValue.{CoreValue}
 use Rattle.call_parts.specs.Asking.{Errand}
 use Rattle.call_parts.specs.Opening.{Opens, identity_of}
 use Rattle.live_run.specs.Sessions.{AreAnswered, Exchange}
-use Rattle.live_run.specs.Talking.{AreReadInTurn, ReadInTurn, acts_of_session}
+use Rattle.live_run.specs.Talking.{AreReadInTurn, EachInTurn, ReadInTurn, acts_of_session}
 use Rattle.live_run.specs.Typing.{TypingState}
 use Rattle.live_run.specs.declared.error.LiveError.{LiveError}
 use Rattle.live_cli.specs.Living.{IsCutLived, LivedFrom, LivedOut, LivedWhole, acts_lived, begun}
@@ -84,7 +84,7 @@ module _ (fingerprint : List ℕ) (c : CoreValue) (i : TypingState) (a b d : Sta
   }
 
   pub read_before : (before behind : List Exchange) → AreReadInTurn StandsFor fingerprint c i b d ld before behind → AreReadInTurn StandsFor fingerprint c i a d ld before behind
-  unfolding AreReadInTurn
+  unfolding EachInTurn
   read_before before [] h = tt
   read_before before (x ∷ behind) h = (turn_before before x behind h.0, read_before (before ++ x ∷ []) behind h.1)
 
@@ -93,7 +93,7 @@ module _ (fingerprint : List ℕ) (c : CoreValue) (i : TypingState) (a b d : Sta
 module _ (e : Errand) (t : TableRows) (i : TypingState) (a : State) (la : ℕ → List ℕ → List ℕ → Type 0) (only : Only a.holds a la) (silent : (c out : List ℕ) → la a.moment c out → out ≡ a.sent) (starts : Opens e a.holds t) where
   -- the opening answered an error
   pub not_opened : (b : State) (lb : ℕ → List ℕ → List ℕ → Type 0) (result : Result Unit LiveError) (P : LiveError → Type 0) → IsErrAnd result P → LeavesOnly a b la lb (IsOpening (identity_of e) a la) → LivedWhole (λ Done. OnOk result Done) e t i a b lb
-  unfolding AreAnswered AreReadInTurn
+  unfolding AreAnswered EachInTurn
   not_opened b lb result P error first = record {
     exchanges = [];
     answered = tt;

@@ -1,4 +1,10 @@
 pub mod Living
+pub mod LivingTwo
+pub mod Causes
 pub mod Ends
+pub mod EndsTwo
 pub mod Promise
+pub mod PromiseTwo
 pub mod Answers
+pub mod AnswersTwo
+pub mod LivesLawfully

@@ -39,25 +39,25 @@ pub record LivedOut (stands : TableRows → List ℕ → Type 0) (t : TableRows)
   pub holds : stands (tables_after t acts) b.holds
   pub at_rest : Only b.holds b lb
 
--- whatever became of them: the lines that were read at this monitor, each answered and each in its turn, and with all acts of the lines before it done when it was read; of their acts, this became at a stop, and where all went well, this at the end
-pub record Lived (fingerprint : List ℕ) (c : CoreValue) (i : TypingState) (a b : State) (lb : ℕ → List ℕ → List ℕ → Type 0) (Stops Ends : List Exchange → Type 0) : Type 0 where
+-- whatever became of them: the lines that were read at this monitor, each answered, and each read in its turn; of their acts, this became at a stop, and where all went well, this at the end
+pub record Lived (c : CoreValue) (Reads Stops Ends : List Exchange → Type 0) : Type 0 where
   pub exchanges : List Exchange
   pub answered : AreAnswered c.application (session_from c.state) exchanges
-  pub read : AreReadInTurn StandsFor fingerprint c i a b lb [] exchanges
+  pub read : Reads exchanges
   pub stops : Stops exchanges
   pub ends : Ends exchanges
 
 -- over a store that keeps the durable tables of a monitor: at each moment what was sent and what a stop leaves are a cut of the acts
 abbrev pub LivedOver : (fingerprint : List ℕ) → CoreValue → TypingState → (a b : State) → (la lb : ℕ → List ℕ → List ℕ → Type 0) → Result Unit LiveError → Type 0
 LivedOver fingerprint c i a b la lb result =
-    Lived fingerprint c i a b lb
+    Lived c (AreReadInTurn StandsFor fingerprint c i a b lb [])
     (λ exchanges. LeavesOnly a b la lb (IsCutOf tables_after (StandsForTables (identity_of fingerprint c)) (durable_of c) (acts_of_session c exchanges) a.sent))
     (λ exchanges. OnOk result (LivedOut (StandsForTables (identity_of fingerprint c)) (durable_of c) (acts_of_session c exchanges) i exchanges a b lb))
 
 -- the same from tables with which the file of an errand was opened
 abbrev pub LivedFrom : Errand → TableRows → TypingState → (a b : State) → (la lb : ℕ → List ℕ → List ℕ → Type 0) → Result Unit LiveError → Type 0
 LivedFrom e t i a b la lb result =
-    Lived e.fingerprint (begun e t) i a b lb
+    Lived (begun e t) (AreReadInTurn StandsFor e.fingerprint (begun e t) i a b lb [])
     (λ exchanges. LeavesOnly a b la lb (IsCutOf tables_after (StandsForTables (own_identity e)) t (acts_lived e t exchanges) a.sent))
     (λ exchanges. OnOk result (LivedOut (StandsForTables (own_identity e)) t (acts_lived e t exchanges) i exchanges a b lb))
 
@@ -68,6 +68,6 @@ IsCutLived e t exchanges a image out = IsCutSince (StandsForTables (own_identity
 -- the same with the opening, where a stop before the call leaves just the file
 abbrev pub LivedWhole : (IsDone : Type 0 → Type 0) → Errand → TableRows → TypingState → (a b : State) → (lb : ℕ → List ℕ → List ℕ → Type 0) → Type 0
 LivedWhole IsDone e t i a b lb =
-    Lived e.fingerprint (begun e t) i a b lb
+    Lived (begun e t) (AreReadInTurn StandsFor e.fingerprint (begun e t) i a b lb [])
     (λ exchanges. (image out : List ℕ) → lb a.moment image out → IsCutLived e t exchanges a image out)
     (λ exchanges. IsDone (LivedOut (StandsForTables (own_identity e)) t (acts_lived e t exchanges) i exchanges a b lb))

@@ -45,7 +45,7 @@ abbrev pub ForLiveRefusal : LiveCall → (Refusal → Type 0) → Type 0
 ForLiveRefusal c P = IsTrue c.room.told → (why : Refusal) → LiveReads c.words c.room (Err why) → P why
 
 -- a text could not be read, or memory ran out before; nothing was done, and no line was read
-pub record IsIdle (status : ℕ) (a b : State) (i j : TypingState) : Type 0 where
+pub record IsIdle {D : Type 0} (status : ℕ) (a b : D) (i j : TypingState) : Type 0 where
   pub code : IsOneOf (6 ∷ 7 ∷ []) status
   pub device : b ≡ a
   pub typing : j ≡ i

@@ -27,7 +27,7 @@ use Rattle.typed_lines.specs.Typing.{typed_of}
 use Rattle.live_run.specs.Answers.{IsAnswer}
 use Rattle.live_run.specs.Performing.{DidSession, TookLine, session_at}
 use Rattle.live_run.specs.Sessions.{AreAnswered, Exchange, Session, acts_of_line, auto_after, session_acts, session_after, session_by, session_from}
-use Rattle.live_run.specs.Talking.{AreReadInTurn, ReadInTurn, Talked, acts_of_session}
+use Rattle.live_run.specs.Talking.{AreReadInTurn, EachInTurn, ReadInTurn, Talked, acts_of_session}
 use Rattle.live_run.specs.Typing.{IsTyped, ReadsNext, SameTyping, TypingState}
 use Rattle.live_run.specs.declared.error.LiveError.{LiveError}
 use Rattle.live_run.specs.declared.error.LiveError.TheVariants as live
@@ -80,7 +80,7 @@ module _ (stands : TableRows → Bytes → Type 0) where
 
 module _ (stands : Identity → Content → List ℕ → Type 0) (fine : State → State → Type 0) (on : JoinsParts fine) (fingerprint : List ℕ) where
   pub so_far_start : (c : CoreValue) (i : TypingState) (j : Identity) (y : Content) (file : List ℕ → Type 0) (a : State) (la : ℕ → List ℕ → List ℕ → Type 0) → IsRunningWith fingerprint c j y → (IsTrue a.told → IsKeptBy file a la) → SoFar stands fine fingerprint c i i c true 0 j y file a a la la
-  unfolding AreReadInTurn
+  unfolding EachInTurn
   so_far_start c i j y file a la running kept =
       let v = session_from c.state in
       let none = acts_of_none c.application v in
@@ -253,7 +253,7 @@ module _ (stands : Identity → Content → List ℕ → Type 0) (fine : State �
     }
 
   read_more : (before behind : List Exchange) → before ++ behind ≡ xs → AreReadInTurn stands fingerprint c i a b lb before behind → AreReadInTurn stands fingerprint c i a e le before (behind ++ x ∷ [])
-  unfolding AreReadInTurn
+  unfolding EachInTurn
   read_more before [] is are = (subst (λ (l : List Exchange). ReadInTurn stands fingerprint c i a e le l x []) (sym is ∙ append-nil before) read_now, tt)
   read_more before (z ∷ behind) is are = (read_still before z behind is are.0, read_more (before ++ z ∷ []) behind (append_assoc before (z ∷ []) behind ∙ is) are.1)
 

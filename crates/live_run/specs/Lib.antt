@@ -5,3 +5,5 @@ pub mod Answers
 pub mod Sessions
 pub mod Performing
 pub mod Talking
+pub mod TalkingLaws
+pub mod WovenLaws

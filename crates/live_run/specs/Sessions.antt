@@ -1,5 +1,5 @@
 -- A session: what typed lines do, one after another.
-use Rattle.std.specs.Prelude.{ℕ, ◌+◌, Bool, true, ⊤, List, [], ◌∷◌, ◌++◌, Result, Ok, Err}
+use Rattle.std.specs.Prelude.{◌≡◌, ◌⊎◌, ℕ, ◌+◌, Bool, true, ⊤, List, [], ◌∷◌, ◌++◌, Result, Ok, Err}
 use Rattle.kd_device.specs.Device.{State as Seen}
 use Rattle.kdcs_types.specs.declared.act.Act.{Act}
 use Rattle.kdcs_types.specs.declared.act.Act.TheVariants.{Emit}
@@ -91,3 +91,28 @@ session_acts app v (x ∷ xs) = acts_of_line app v x.line x.answer ++ session_ac
 unfoldable pub AreAnswered : Application → Session → List Exchange → Type 0
 AreAnswered app v [] = ⊤
 AreAnswered app v (x ∷ xs) = IsAnswer v.state x.line x.answer × AreAnswered app (session_after app v x.line) xs
+
+-- ---- their commands
+
+abbrev pub commands_said : Result (List Command) ScriptFault → List Command
+commands_said (Ok commands) = commands
+commands_said (Err fault) = []
+
+abbrev pub commands_asked : Application → Session → (line : List ℕ) → Typed → List Command
+commands_asked app v line (asks.Question question) = []
+commands_asked app v line (asks.Switch switch) = []
+commands_asked app v line asks.Script = commands_said (commands_in app.generation v.auto line)
+
+-- the commands of a line: those of one that is accepted, and none of a question, a switch or a line that is refused
+unfoldable pub commands_of_line : Application → Session → (line : List ℕ) → List Command
+commands_of_line app v line = commands_asked app v line (typed_of line)
+
+-- the commands of all lines, in order
+unfoldable pub session_commands : Application → Session → List Exchange → List Command
+session_commands app v [] = []
+session_commands app v (x ∷ xs) = commands_of_line app v x.line ++ session_commands app (session_after app v x.line) xs
+
+-- all these acts are those of commands, in their order, and between them lines: answers and refusals
+unfoldable pub AreWoven : (own all : List Act) → Type 0
+AreWoven own [] = own ≡ []
+AreWoven own (a ∷ all) = ((rest : List Act) × (own ≡ a ∷ rest) × AreWoven rest all) ⊎ ((line : List ℕ) × (a ≡ Emit line) × AreWoven own all)

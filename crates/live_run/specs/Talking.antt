@@ -29,10 +29,14 @@ pub record ReadInTurn (stands : Identity → Content → List ℕ → Type 0) (f
   pub stored : IsTrue a.told → (image out : List ℕ) → lb x.seen.moment image out
       → IsCutOf tables_after (StandsForRows stands (identity_of fingerprint c)) (tables_after (durable_of c) (acts_of_session c before)) (session_acts c.application (session_by c.application (session_from c.state) before) (x ∷ behind)) x.seen.sent image out
 
+-- this holds of each line, with those before it and those behind it
+unfoldable pub EachInTurn : ((before : List Exchange) → Exchange → (behind : List Exchange) → Type 0) → (before behind : List Exchange) → Type 0
+EachInTurn P before [] = ⊤
+EachInTurn P before (x ∷ behind) = P before x behind × EachInTurn P (before ++ x ∷ []) behind
+
 -- and so was each
-unfoldable pub AreReadInTurn : (stands : Identity → Content → List ℕ → Type 0) → (fingerprint : List ℕ) → CoreValue → TypingState → (a b : State) → (lb : ℕ → List ℕ → List ℕ → Type 0) → (before behind : List Exchange) → Type 0
-AreReadInTurn stands fingerprint c i a b lb before [] = ⊤
-AreReadInTurn stands fingerprint c i a b lb before (x ∷ behind) = ReadInTurn stands fingerprint c i a b lb before x behind × AreReadInTurn stands fingerprint c i a b lb (before ++ x ∷ []) behind
+abbrev pub AreReadInTurn : (stands : Identity → Content → List ℕ → Type 0) → (fingerprint : List ℕ) → CoreValue → TypingState → (a b : State) → (lb : ℕ → List ℕ → List ℕ → Type 0) → (before behind : List Exchange) → Type 0
+AreReadInTurn stands fingerprint c i a b lb before behind = EachInTurn (ReadInTurn stands fingerprint c i a b lb) before behind
 
 -- the input is at its end, and all acts of all its lines were done: they were sent, files that were made with j keep the durable tables after them, and a stop leaves no image but theirs
 pub record TalkedOut (fingerprint : List ℕ) (c : CoreValue) (i : TypingState) (j : Identity) (y : Content) (file : List ℕ → Type 0) (exchanges : List Exchange) (a b : State) (lb : ℕ → List ℕ → List ℕ → Type 0) : Type 0 where

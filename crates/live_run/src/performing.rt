@@ -94,6 +94,7 @@ fn perform<K: Reopens>(
     if !may_do(core.parts().steps, commands) {
         return Err(LiveError::Spent);
     }
+    counts.prepare(alloc, &core.parts().generation)?;
     let mut done = 0;
     let (next, commits) = run_on(
         alloc,

@@ -76,7 +76,7 @@ pub fn live_with<K: Reopens, I: Typing>(
 {
     let mut core = core;
     let mut auto = true;
-    let mut counts = Counts::none();
+    let mut counts = Counts::none(alloc);
     for number in 0..u64::MAX {
         let Some(line) = next_line(alloc, keeper, typing)? else {
             return Ok(());

@@ -61,40 +61,42 @@ frame_kept s0 b0 a b i s begins since line moment =
     line moment
 
 module _ (i : Identity) (t : TableRows) where
-  counts_of : (c d : List ℕ) → StandsForRows stands_kept i t (pair_image c d) → CountsAs (one_more i) t c d
+  pub counts_of : (c d : List ℕ) → StandsForRows stands_kept i t (pair_image c d) → CountsAs (one_more i) t c d
   counts_of c d h =
       let chosen = (pair_decodes (λ a b. (n : ℕ) × IsChosen (one_more i) n (content_of_tables t) a b) (λ half a. (n : ℕ) × IsCopyOf (one_more i) n (content_of_tables t) a) c d).0 h.content in
       (chosen.0, record { tables = h.tables; chosen = chosen.1 })
 
-  copy_of : (half : Half) (c : List ℕ) → StandsForRows stands_kept i t (alone_image half c) → IsCopyOfTables (one_more i) t c
+  pub copy_of : (half : Half) (c : List ℕ) → StandsForRows stands_kept i t (alone_image half c) → IsCopyOfTables (one_more i) t c
   copy_of half c h = record {
     tables = h.tables;
     copy = (alone_decodes (λ a b. (n : ℕ) × IsChosen (one_more i) n (content_of_tables t) a b) (λ half a. (n : ℕ) × IsCopyOf (one_more i) n (content_of_tables t) a) half c).0 h.content;
   }
 
+-- a cut in images is one in the files that they are of
+module _ (i : Identity) (t : TableRows) (acts : List Act) (sent : List ℕ) where
+  pub pair_cut : (c d out : List ℕ) → IsCutOf tables_after (StandsForRows stands_kept i) t acts sent (pair_image c d) out → IsCutOfTables (λ u. CountsAs (one_more i) u c d) t acts sent out
+  pair_cut c d out h = record { since = h.since; more = h.more; done = h.done; left = h.left; whole = h.whole; file = counts_of i (tables_after t h.done) c d h.file; bytes = h.bytes }
+
+  pub half_cut : (half : Half) (c out : List ℕ) → IsCutOf tables_after (StandsForRows stands_kept i) t acts sent (alone_image half c) out → IsCutOfTables (λ u. IsCopyOfTables (one_more i) u c) t acts sent out
+  half_cut half c out h = record { since = h.since; more = h.more; done = h.done; left = h.left; whole = h.whole; file = copy_of i (tables_after t h.done) half c h.file; bytes = h.bytes }
+
 module _ (s0 s : Twice) (b0 a b : Both) (la lb : ℕ → List ℕ → List ℕ → List ℕ → Type 0) (copies : s0 ≡ s) (begins : b0 ≡ a) where
-  left_pair : (e : Both) (le : ℕ → List ℕ → List ℕ → List ℕ → Type 0) (u : ℕ) (c d out : List ℕ) → le u c d out → leaves_kept s0 b0 e le u (pair_image c d) out
+  pub left_pair : (e : Both) (le : ℕ → List ℕ → List ℕ → List ℕ → Type 0) (u : ℕ) (c d out : List ℕ) → le u c d out → leaves_kept s0 b0 e le u (pair_image c d) out
   left_pair e le u c d out left = (pair_decodes (λ c d. le u c d out) (λ half c. IsSpared half s0 b0 e × half_leaves half le u c out) c d).1 left
 
-  pair_left : (e : Both) (le : ℕ → List ℕ → List ℕ → List ℕ → Type 0) (u : ℕ) (c d out : List ℕ) → leaves_kept s0 b0 e le u (pair_image c d) out → le u c d out
+  pub pair_left : (e : Both) (le : ℕ → List ℕ → List ℕ → List ℕ → Type 0) (u : ℕ) (c d out : List ℕ) → leaves_kept s0 b0 e le u (pair_image c d) out → le u c d out
   pair_left e le u c d out left = (pair_decodes (λ c d. le u c d out) (λ half c. IsSpared half s0 b0 e × half_leaves half le u c out) c d).0 left
 
-  left_alone : (e : Both) (le : ℕ → List ℕ → List ℕ → List ℕ → Type 0) (half : Half) (u : ℕ) (c out : List ℕ) → IsSpared half s0 b0 e → half_leaves half le u c out → leaves_kept s0 b0 e le u (alone_image half c) out
+  pub left_alone : (e : Both) (le : ℕ → List ℕ → List ℕ → List ℕ → Type 0) (half : Half) (u : ℕ) (c out : List ℕ) → IsSpared half s0 b0 e → half_leaves half le u c out → leaves_kept s0 b0 e le u (alone_image half c) out
   left_alone e le half u c out spared left = (alone_decodes (λ c d. le u c d out) (λ half c. IsSpared half s0 b0 e × half_leaves half le u c out) half c).1 (spared, left)
 
-  alone_left : (e : Both) (le : ℕ → List ℕ → List ℕ → List ℕ → Type 0) (half : Half) (u : ℕ) (c out : List ℕ) → leaves_kept s0 b0 e le u (alone_image half c) out → half_leaves half le u c out
+  pub alone_left : (e : Both) (le : ℕ → List ℕ → List ℕ → List ℕ → Type 0) (half : Half) (u : ℕ) (c out : List ℕ) → leaves_kept s0 b0 e le u (alone_image half c) out → half_leaves half le u c out
   alone_left e le half u c out left = ((alone_decodes (λ c d. le u c d out) (λ half c. IsSpared half s0 b0 e × half_leaves half le u c out) half c).0 left).1
 
-  spared : (half : Half) → IsInUse half s → (RoseAt half a b → ⊥) → IsSpared half s0 b0 b
+  pub spared : (half : Half) → IsInUse half s → (RoseAt half a b → ⊥) → IsSpared half s0 b0 b
   spared half used whole = record { used = subst (λ (z : Twice). IsInUse half z) (sym copies) used; whole = λ rose. whole (subst (λ (z : Both). RoseAt half z b) begins rose) }
 
   module _ (i : Identity) (t : TableRows) (acts : List Act) (within : WithinActs tables_after (StandsForRows stands_kept i) t acts (state_kept s0 b0 a) (state_kept s0 b0 b) (leaves_kept s0 b0 a la) (leaves_kept s0 b0 b lb)) where
-    pairs_cut : (c d out : List ℕ) → IsCutOf tables_after (StandsForRows stands_kept i) t acts a.sent (pair_image c d) out → IsCutOfTables (λ u. CountsAs (one_more i) u c d) t acts a.sent out
-    pairs_cut c d out h = record { since = h.since; more = h.more; done = h.done; left = h.left; whole = h.whole; file = counts_of i (tables_after t h.done) c d h.file; bytes = h.bytes }
-
-    half_cut : (half : Half) (c out : List ℕ) → IsCutOf tables_after (StandsForRows stands_kept i) t acts a.sent (alone_image half c) out → IsCutOfTables (λ u. IsCopyOfTables (one_more i) u c) t acts a.sent out
-    half_cut half c out h = record { since = h.since; more = h.more; done = h.done; left = h.left; whole = h.whole; file = copy_of i (tables_after t h.done) half c h.file; bytes = h.bytes }
-
     -- whatever became of the acts
     pub part_of_acts : (own : Identity) (z : Twice) → IsSinceStart s0 b0 b own z → PartTwice (one_more i) s t acts a b la lb
     part_of_acts own z since = record {
@@ -103,14 +105,14 @@ module _ (s0 s : Twice) (b0 a b : Both) (la lb : ℕ → List ℕ → List ℕ �
           let h = within.any_moment told in
           record {
             later = h.later;
-            only = λ u c d out le left. ⊎_elim (λ past. inl (pair_left a la u c d out past)) (λ cut. inr (pairs_cut c d out cut)) (h.only u (pair_image c d) out le (left_pair b lb u c d out left));
+            only = λ u c d out le left. ⊎_elim (λ past. inl (pair_left a la u c d out past)) (λ cut. inr (pair_cut i t acts a.sent c d out cut)) (h.only u (pair_image c d) out le (left_pair b lb u c d out left));
           };
       halves = λ told half used whole.
           let h = within.any_moment told in
           record {
             later = h.later;
             only = λ u c out le left.
-                ⊎_elim (λ past. inl (alone_left a la half u c out past)) (λ cut. inr (half_cut half c out cut)) (h.only u (alone_image half c) out le (left_alone b lb half u c out (spared half used whole) left));
+                ⊎_elim (λ past. inl (alone_left a la half u c out past)) (λ cut. inr (half_cut i t acts a.sent half c out cut)) (h.only u (alone_image half c) out le (left_alone b lb half u c out (spared half used whole) left));
           };
     }
 

@@ -27,7 +27,7 @@ use Rattle.twin_run.specs.Running.{FailsTwice, FrameTwice, IsCopyOfTables, IsLas
 use Rattle.twin_run.proofs.Parting.{beside, frame_of_lines, frame_then, lines_part, part_of_told, parts_then, rose_before, rose_behind, within_twice}
 use Rattle.twin_run.proofs.Resting.{RestsTwice, rests_twice}
 
-lines_alone : (line : Half → List ℕ) (half : Option Half) → commits_nothing (lines_for line half) ≡ true
+pub lines_alone : (line : Half → List ℕ) (half : Option Half) → commits_nothing (lines_for line half) ≡ true
 lines_alone line None = refl
 lines_alone line (Some half) = refl
 
@@ -76,7 +76,7 @@ module _ (i : Identity) (s : Twice) (t : TableRows) (acts : List Act) (a b : Bot
   first : SaysTwice (lines_for mended_line s.mended) a b la lb
   first = subst (λ (o : Option Half). SaysTwice (lines_for mended_line o) a b la lb) half_is said
 
-  first_part : PartTwice i s t (lines_for mended_line s.mended) a b la lb
+  pub first_part : PartTwice i s t (lines_for mended_line s.mended) a b la lb
   first_part =
       lines_part i s t (lines_for mended_line s.mended) a b la lb (lines_alone mended_line s.mended) first (λ told. rests_twice i s t a la begins.twice begins.keeps (begins.kept told) begins.is_open)
 
@@ -88,7 +88,7 @@ module _ (i : Identity) (s : Twice) (t : TableRows) (acts : List Act) (a b : Bot
     sent : IsTrue a.told → b.sent ≡ a.sent ++ bytes_of (lines_for mended_line s.mended)
     sent told = subst (λ (o : Option Half). b.sent ≡ a.sent ++ bytes_of (lines_for mended_line o)) half_is (line_sent told)
 
-    two_parts : PartTwice i s t (lines_for mended_line s.mended ++ acts) a e la le
+    pub two_parts : PartTwice i s t (lines_for mended_line s.mended ++ acts) a e la le
     two_parts =
         parts_then i s s t t (lines_for mended_line s.mended) acts a b e la lb le first_part (λ told. sym (tables_same (lines_for mended_line s.mended) t (lines_alone mended_line s.mended))) sent second (λ told side used whole. used)
 
@@ -97,16 +97,16 @@ module _ (i : Identity) (s : Twice) (t : TableRows) (acts : List Act) (a b : Bot
     within_second = within_twice i s t acts (lines_for mended_line s.mended ++ acts) [] None a e la le (sym (append_assoc (lines_for mended_line s.mended) acts [])) (λ told. none_lost s a e) two_parts
 
     module _ (lost : Option Half) (did : IsTrue b.told → DidTwice i s t acts lost b e le) (f : Both) (lf : ℕ → List ℕ → List ℕ → List ℕ → Type 0) (last : SaysTwice (lines_for lost_line lost) e f le lf) where
-      told_b : IsTrue a.told → IsTrue b.told
+      pub told_b : IsTrue a.told → IsTrue b.told
       told_b told = subst IsTrue (sym first_part.frame.told) told
 
-      told_e : IsTrue a.told → IsTrue e.told
+      pub told_e : IsTrue a.told → IsTrue e.told
       told_e told = subst IsTrue (sym two_parts.frame.told) told
 
-      last_frame : FrameTwice e f
+      pub last_frame : FrameTwice e f
       last_frame = frame_of_lines (lines_for lost_line lost) e f le lf last
 
-      rests : (told : IsTrue a.told) → RestsTwice i (did (told_b told)).now (tables_after t acts) e le
+      pub rests : (told : IsTrue a.told) → RestsTwice i (did (told_b told)).now (tables_after t acts) e le
       rests told = let d = did (told_b told) in rests_twice i d.now (tables_after t acts) e le d.twice d.keeps d.kept d.since.is_open
 
       third : (told : IsTrue a.told) → PartTwice i (did (told_b told)).now (tables_after t acts) (lines_for lost_line lost) e f le lf
@@ -115,14 +115,14 @@ module _ (i : Identity) (s : Twice) (t : TableRows) (acts : List Act) (a b : Bot
       acts_tables : tables_after t acts ≡ tables_after t (lines_for mended_line s.mended ++ acts)
       acts_tables = sym (tables_both t (lines_for mended_line s.mended) acts ∙ ap (λ (u : TableRows). tables_after u acts) (tables_same (lines_for mended_line s.mended) t (lines_alone mended_line s.mended)))
 
-      acts_sent : IsTrue a.told → e.sent ≡ a.sent ++ bytes_of (lines_for mended_line s.mended ++ acts)
+      pub acts_sent : IsTrue a.told → e.sent ≡ a.sent ++ bytes_of (lines_for mended_line s.mended ++ acts)
       acts_sent told =
           (did (told_b told)).sent
           ∙ ap (λ (l : List ℕ). l ++ bytes_of acts) (sent told)
           ∙ append_assoc a.sent (bytes_of (lines_for mended_line s.mended)) (bytes_of acts)
           ∙ ap (λ (l : List ℕ). a.sent ++ l) (sym (bytes_joined (lines_for mended_line s.mended) acts))
 
-      in_use_still : (told : IsTrue a.told) (half : Half) → IsInUse half s → (RoseAt half a e → ⊥) → IsInUse half (did (told_b told)).now
+      pub in_use_still : (told : IsTrue a.told) (half : Half) → IsInUse half s → (RoseAt half a e → ⊥) → IsInUse half (did (told_b told)).now
       in_use_still told half used whole = ⊎_elim (λ u. u) (λ l. absurd (whole (rose_before half a b e first_part.frame l.1))) ((did (told_b told)).since.unused half used)
 
       all_parts : PartTwice i s t ((lines_for mended_line s.mended ++ acts) ++ lines_for lost_line lost) a f la lf
@@ -131,7 +131,7 @@ module _ (i : Identity) (s : Twice) (t : TableRows) (acts : List Act) (a b : Bot
           (λ told.
           parts_then i s (did (told_b told)).now t (tables_after t acts) (lines_for mended_line s.mended ++ acts) (lines_for lost_line lost) a e f la le lf two_parts (λ now. acts_tables) acts_sent (third told) (λ now side used whole. in_use_still told side used whole))
 
-      may_be_lost : IsTrue a.told → MayBeLost s a f lost
+      pub may_be_lost : IsTrue a.told → MayBeLost s a f lost
       may_be_lost told half is =
           let d = did (told_b told) in
           ⊎_elim (λ l. inl l) (λ rose. inr (rose_before half a b f first_part.frame (rose_behind half b e f last_frame rose))) (d.since.newly_lost half (sym d.lost_is ∙ is))

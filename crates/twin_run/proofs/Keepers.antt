@@ -52,10 +52,10 @@ module _ {T : Type 0} (both : T → Both) (leaves : T → ℕ → List ℕ → L
     pub told_made : IsTrue (both x).told → IsTrue (both k.twin).told
     told_made told = subst (λ (z : TwinKept T). IsTrue (both z.twin).told) (sym made) told
 
-    told_back : (k' : TwinKept T) → IsSinceStart s0 b0 (both k'.twin) k'.identity k'.store → IsTrue (both x).told → IsTrue (both k'.twin).told
+    pub told_back : (k' : TwinKept T) → IsSinceStart s0 b0 (both k'.twin) k'.identity k'.store → IsTrue (both x).told → IsTrue (both k'.twin).told
     told_back k' since told = subst IsTrue (sym (since.told ∙ ap (λ (z : Both). z.told) begins)) told
 
-    core_identity : (fingerprint : List ℕ) (c : CoreValue) → IsRunningTwice fingerprint c s → i ≡ identity_of_core fingerprint c
+    pub core_identity : (fingerprint : List ℕ) (c : CoreValue) → IsRunningTwice fingerprint c s → i ≡ identity_of_core fingerprint c
     core_identity fingerprint c running = same_once i (identity_of_core fingerprint c) (sym identity ∙ running.keeps.identity_is)
 
     pub running_made : (fingerprint : List ℕ) (c : CoreValue) → IsRunningTwice fingerprint c s → IsRunningWith fingerprint c k.identity (content_of k.store)
@@ -69,7 +69,7 @@ module _ {T : Type 0} (both : T → Both) (leaves : T → ℕ → List ℕ → L
         })
 
     module _ (k' : TwinKept T) (y : T) (back : y ≡ k'.twin) (since : IsSinceStart s0 b0 (both k'.twin) k'.identity k'.store) (t : TableRows) (acts : List Act) where
-      part_made : WithinActs tables_after (StandsForRows stands_kept i) t acts (state_kept s0 b0 (both k.twin)) (state_kept s0 b0 (both k'.twin)) (leaves_kept s0 b0 (both k.twin) (leaves k.twin)) (leaves_kept s0 b0 (both k'.twin) (leaves k'.twin))
+      pub part_made : WithinActs tables_after (StandsForRows stands_kept i) t acts (state_kept s0 b0 (both k.twin)) (state_kept s0 b0 (both k'.twin)) (leaves_kept s0 b0 (both k.twin) (leaves k.twin)) (leaves_kept s0 b0 (both k'.twin) (leaves k'.twin))
           → PartTwice (identity_of s) s t acts (both x) (both y) (leaves x) (leaves y)
       part_made within =
           let here = subst (λ (z : TwinKept T). WithinActs tables_after (StandsForRows stands_kept i) t acts (state_kept s0 b0 (both z.twin)) (state_kept s0 b0 (both k'.twin)) (leaves_kept s0 b0 (both z.twin) (leaves z.twin)) (leaves_kept s0 b0 (both k'.twin) (leaves k'.twin))) made within in
@@ -88,7 +88,7 @@ module _ {T : Type 0} (both : T → Both) (leaves : T → ℕ → List ℕ → L
           acts lines (state_kept s0 b0 (both k.twin)) (state_kept s0 b0 (both k'.twin)) (leaves_kept s0 b0 (both k.twin) (leaves k.twin)) (leaves_kept s0 b0 (both k'.twin) (leaves k'.twin))
           (subst (λ (z : TwinKept T). WithinActs content_after (stands_kept z.identity) (content_of z.store) acts (state_kept s0 b0 (both k.twin)) (state_kept s0 b0 (both k'.twin)) (leaves_kept s0 b0 (both k.twin) (leaves k.twin)) (leaves_kept s0 b0 (both k'.twin) (leaves k'.twin))) made within))
 
-      did_made : (half : Option Half) → half ≡ k'.store.lost → KeepsRows i k'.identity (content_of k'.store) (tables_after t acts) → (both k'.twin).sent ≡ (both k.twin).sent ++ bytes_of acts
+      pub did_made : (half : Option Half) → half ≡ k'.store.lost → KeepsRows i k'.identity (content_of k'.store) (tables_after t acts) → (both k'.twin).sent ≡ (both k.twin).sent ++ bytes_of acts
           → IsKeptBy (file_kept k'.identity k'.store (both k'.twin)) (state_kept s0 b0 (both k'.twin)) (leaves_kept s0 b0 (both k'.twin) (leaves k'.twin)) → leaves k'.twin (both k'.twin).moment (both k'.twin).first.holds (both k'.twin).second.holds (both k'.twin).sent
           → DidTwice (identity_of s) s t acts half (both x) (both y) (leaves y)
       did_made half lost keeps sent rest now =

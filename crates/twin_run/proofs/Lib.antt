@@ -1,10 +1,10 @@
 mod Saying
-mod Resting
-mod Parting
-mod Decoding
-mod Handing
-mod Keepers
-mod Lent
-mod Ending
+pub mod Resting
+pub mod Parting
+pub mod Decoding
+pub mod Handing
+pub mod Keepers
+pub mod Lent
+pub mod Ending
 mod KeepingCalls
 mod KeepingValues

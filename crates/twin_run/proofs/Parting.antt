@@ -41,7 +41,7 @@ more_left done left rest since (inl all) = inl all
 more_left done left rest since (inr part) = inr (part.0, part.1 ++ rest, ap (λ (l : List Act). l ++ rest) part.2, part.3, part.4)
 
 module _ (keeps : TableRows → Type 0) (t : TableRows) where
-  cut_of_front : (p q : List Act) (sent out : Bytes) → IsCutOfTables keeps t p sent out → IsCutOfTables keeps t (p ++ q) sent out
+  pub cut_of_front : (p q : List Act) (sent out : Bytes) → IsCutOfTables keeps t p sent out → IsCutOfTables keeps t (p ++ q) sent out
   cut_of_front p q sent out h = record {
     since = h.since;
     more = h.more;
@@ -52,20 +52,20 @@ module _ (keeps : TableRows → Type 0) (t : TableRows) where
     bytes = more_left h.done h.left q h.since h.bytes;
   }
 
-  cut_of_back : (p q : List Act) (u : TableRows) (sent now out : Bytes) → u ≡ tables_after t p → now ≡ sent ++ bytes_of p → IsCutOfTables keeps u q now out → IsCutOfTables keeps t (p ++ q) sent out
+  pub cut_of_back : (p q : List Act) (u : TableRows) (sent now out : Bytes) → u ≡ tables_after t p → now ≡ sent ++ bytes_of p → IsCutOfTables keeps u q now out → IsCutOfTables keeps t (p ++ q) sent out
   cut_of_back p q u sent now out reached is h =
       subst (λ (l : List Act). IsCutOfTables keeps t (p ++ l) sent out) (append-nil q)
       (cut_of_part tables_after tables_go (λ v image. keeps v) t p q [] sent [] out (subst (λ (v : TableRows). IsCutOfTables keeps v q (sent ++ bytes_of p) out) reached (subst (λ (l : Bytes). IsCutOfTables keeps u q l out) is h)))
 
   -- of lines, which make nothing
-  cut_of_lines : (lines : List Act) → commits_nothing lines ≡ true → keeps t → (sent out : Bytes) → SendsPart lines sent out → IsCutOfTables keeps t lines sent out
+  pub cut_of_lines : (lines : List Act) → commits_nothing lines ≡ true → keeps t → (sent out : Bytes) → SendsPart lines sent out → IsCutOfTables keeps t lines sent out
   cut_of_lines lines none now sent out h =
       lines_cut (λ x image. keeps t) fresh (λ u image. keeps u) t (λ image k. k) lines none sent [] out
       (record { since = h.since; more = h.more; done = h.done; left = h.left; whole = h.whole; file = now; bytes = h.bytes })
 
 -- ---- one half of both
 
-half_of_pairs : (half : Half) (a b : Both) (la lb : ℕ → List ℕ → List ℕ → List ℕ → Type 0) (P : List ℕ → List ℕ → List ℕ → Type 0) (Q : List ℕ → List ℕ → Type 0) → LeavesPairs a b la lb P → ((c : List ℕ) → (d out : List ℕ) → P c d out → Q (file_of half c d) out)
+pub half_of_pairs : (half : Half) (a b : Both) (la lb : ℕ → List ℕ → List ℕ → List ℕ → Type 0) (P : List ℕ → List ℕ → List ℕ → Type 0) (Q : List ℕ → List ℕ → Type 0) → LeavesPairs a b la lb P → ((c : List ℕ) → (d out : List ℕ) → P c d out → Q (file_of half c d) out)
     → LeavesOnly (half_state half a) (half_state half b) (half_leaves half la) (half_leaves half lb) Q
 half_of_pairs First a b la lb P Q h f = record { later = h.later; only = λ t c out le left. ⊎_elim (λ l. inl (left.0, l)) (λ p. inr (f c left.0 out p)) (h.only t c left.0 out le left.1) }
 half_of_pairs Second a b la lb P Q h f = record { later = h.later; only = λ t d out le left. ⊎_elim (λ l. inl (left.0, l)) (λ p. inr (f left.0 d out p)) (h.only t left.0 d out le left.1) }

@@ -19,7 +19,7 @@ use std::alloc::Global;
 use std::marker::{Brand, Model};
 
 /// Where a run begins: the twin that is lent to it, and the copies.
-pub(crate) trait Start: Origin {
+pub trait Start: Origin {
     ghost use Rattle.kdcfile_double.specs.Twice.{Twice};
 
     ghost store: { Twice };
@@ -34,7 +34,7 @@ impl Start for Brand {
 /// Two copies with their twin. After a commit or an opening that answered an error no copy is in use. Contracts see the
 /// twin, the copies, and what the generation's own file would be made with.
 #[derive(Drop)]
-pub(crate) struct TwinKeeper<T: Twin, S: Start> {
+pub struct TwinKeeper<T: Twin, S: Start> {
     twin: SameTwin<T, S>,
     store: TwinStore,
     limits: StoreLimits,
@@ -54,7 +54,7 @@ impl<T: Twin, S: Start> Model for TwinKeeper<T, S> {
 
 impl<T: Twin, S: Start> TwinKeeper<T, S> {
     /// Copies that are in use, with their twin.
-    pub(crate) fn new(
+    pub fn new(
         twin: T,
         store: TwinStore,
         limits: StoreLimits,
@@ -73,14 +73,14 @@ impl<T: Twin, S: Start> TwinKeeper<T, S> {
     }
 
     /// The half that is used no more, since a call on it failed.
-    pub(crate) fn lost(&self) -> Option<Half>
+    pub fn lost(&self) -> Option<Half>
         ensures { result ≡ self.now.store.lost }
     {
         self.store.lost()
     }
 
     /// The twin again.
-    pub(crate) fn into_twin(self) -> T
+    pub fn into_twin(self) -> T
         ensures twin { result ≡ self.twin }
         ensures place { T.place self.twin ≡ S.place }
         ensures since { IsSinceStart S.store S.both (T.both self.twin) self.identity self.store }

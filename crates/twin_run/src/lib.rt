@@ -11,4 +11,6 @@ mod keeper;
 mod lines;
 mod running;
 
+pub use keeper::{Start, TwinKeeper};
+pub use lines::{say_lost, say_mended};
 pub use running::{run_twice, send_twice};

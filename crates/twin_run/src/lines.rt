@@ -26,7 +26,7 @@ fn lost_line(half: Half) -> &'static [u8]
 }
 
 /// Says which half was mended, where one was.
-pub(crate) fn say_mended<T: Twin>(twin: &mut T, mended: Option<Half>) -> Result<(), DeviceError>
+pub fn say_mended<T: Twin>(twin: &mut T, mended: Option<Half>) -> Result<(), DeviceError>
     ensures says { SaysTwice (lines_for mended_line mended) (T.both twin.old) (T.both twin.new) (T.leaves twin.old) (T.leaves twin.new) }
     ensures sent { OnOk result (IsTrue (T.both twin.old).told → (T.both twin.new).sent ≡ (T.both twin.old).sent ++ bytes_of (lines_for mended_line mended)) }
     ensures failed { IsErrOf result DeviceError.Failed → Rose (T.both twin.old).line_faults (T.both twin.new).line_faults }
@@ -39,7 +39,7 @@ pub(crate) fn say_mended<T: Twin>(twin: &mut T, mended: Option<Half>) -> Result<
 }
 
 /// Says which half is lost, where one is.
-pub(crate) fn say_lost<T: Twin>(twin: &mut T, lost: Option<Half>) -> Result<(), DeviceError>
+pub fn say_lost<T: Twin>(twin: &mut T, lost: Option<Half>) -> Result<(), DeviceError>
     ensures says { SaysTwice (lines_for lost_line lost) (T.both twin.old) (T.both twin.new) (T.leaves twin.old) (T.leaves twin.new) }
     ensures sent { OnOk result (IsTrue (T.both twin.old).told → (T.both twin.new).sent ≡ (T.both twin.old).sent ++ bytes_of (lines_for lost_line lost)) }
     ensures failed { IsErrOf result DeviceError.Failed → Rose (T.both twin.old).line_faults (T.both twin.new).line_faults }

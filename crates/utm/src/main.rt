@@ -28,7 +28,7 @@ fn main(rt: HostRuntime) -> ExitCode {
         return ExitCode::from(NO_ANSWER);
     };
     let mut room = FolderRoom::new(&rt, "utm");
-    let mut twin = FileTwin::new(&rt);
+    let mut twin = FileTwin::new(&rt, "utm");
     let status = utm_twin(rt.alloc(), &words, &mut room, &mut twin);
     drop(standard);
     ExitCode::from(status.code)

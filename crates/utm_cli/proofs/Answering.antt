@@ -24,7 +24,8 @@ use Rattle.utm_cli.specs.Doing.{AuditRefuses, RefusesBy, Refuses, Starts, tables
 use Rattle.utm_cli.specs.EndsLaws.{ends}
 use Rattle.utm_cli.specs.Parts.{EndsOne, HasTrailBytes}
 use Rattle.call_parts.specs.Requests.{AsksNothing, Misses, Reads, Request}
-use Rattle.utm_cli.specs.Promise.{AttachedBy, AuditsOwn, Completes, ForStart, HaltsRun, IsCutOfRun, LeavesFile, RoomTells, RunsLawfully, StopsRun, Tells, call}
+use Rattle.call_ends.specs.LawfulRuns.{RunsLawfully}
+use Rattle.utm_cli.specs.Promise.{AttachedBy, AuditsOwn, Completes, ForStart, HaltsRun, IsCutOfRun, LeavesFile, RoomTells, StopsRun, Tells, call}
 use Rattle.call_parts.specs.Words.{usage_line}
 use Rattle.call_parts.specs.declared.words.Word.{Word}
 use Rattle.call_parts.specs.declared.words.Word.TheVariants.{Gen, Run, Show, Update, Trail, Audit, Make}

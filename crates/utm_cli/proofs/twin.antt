@@ -1,6 +1,4 @@
-mod Answered
 mod Stays
-mod Keeps
 mod ByWord
 mod Does
 mod Scripts

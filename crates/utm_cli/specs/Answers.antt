@@ -22,7 +22,8 @@ use Rattle.utm_cli.specs.Promise.{Attaches, Call, Completes, EndsInCut, ForErran
 use Rattle.call_parts.specs.Requests.{AsksNothing, Misses, Request, IsSingleCall}
 use Rattle.call_parts.specs.Leaving.{CallFailed, SaysPart}
 use Rattle.utm_cli.specs.Promise.{ForStart, ForStartAtRest, ForTrail, HaltsRun, HasDone, LeavesCuts, LeavesFile}
-use Rattle.utm_cli.specs.Promise.{RunsLawfully, SaysFile, SaysRefusal, StopsRun, Writes, call}
+use Rattle.call_ends.specs.LawfulRuns.{RunsLawfully}
+use Rattle.utm_cli.specs.Promise.{SaysFile, SaysRefusal, StopsRun, Writes, call}
 use Rattle.utm_cli.specs.PromiseTwo.{AttachesTwoBy, CompletesTwo, EndsTwo, ForOwnTrailTwo, ForTwo, ForTwoErrand, ForTwoFiles, ForTwoRefusal, ForTwoStart}
 use Rattle.call_parts.specs.LeavingTwo.{FailsTwo, FaultsTwo, FineTwo, FrameTwin, SaidTwo, SameNamesTwo, SaysPartTwo}
 use Rattle.utm_cli.specs.PromiseTwo.{MayAttachTwoBy, SaysWhyTwo, StopsTwo, TwinCall}

@@ -8,15 +8,7 @@ use Rattle.kdcs_types.specs.declared.act.Act.{Act}
 use Rattle.abstract_monitor.specs.State.{Application}
 use Rattle.abstract_monitor.specs.declared.command.Command.{Command}
 use Rattle.abstract_monitor.specs.Commands.{started}
-use Rattle.abstract_monitor.specs.Endings.{durable}
-use Rattle.abstract_monitor.specs.Trace.{history, trace, tables_after, bytes_of}
-use Rattle.laws_of_states.specs.EachStep.{EachStep}
-use Rattle.laws_of_runs.specs.Lawful.{IsLawful}
-use Rattle.laws_of_runs.specs.ManyRuns.{StoppedRun, AreRunsFrom, RunsKeepJobs}
-use Rattle.laws_of_runs.specs.QueueLaws.{JobsAreKept}
-use Rattle.laws_of_runs.specs.ResumeLaws.{CutResumes}
-use Rattle.laws_of_runs.specs.SerialCuts.{IsSerialCut}
-use Rattle.laws_of_runs.specs.Access.{KeepsAccess, HasNoLocks, IsWithoutRule, RunsAsKeyless}
+use Rattle.abstract_monitor.specs.Trace.{tables_after, bytes_of}
 use Rattle.device_acts.specs.Opening.{opening_most}
 use Rattle.device_acts.specs.Stands.{StandsForTables}
 use Rattle.device_acts.specs.Acting.{commits_nothing, HaltsAt, WritesBegun, WritesUpTo}
@@ -142,20 +134,6 @@ StopsRun e s a b = (b.sent ≡ a.sent) ⊎ ((n : ℕ) × StoppedIn (StandsForTab
 -- a run on which a call failed: one of the line; or nothing was sent, or just the lines before a commit or before that of a RESTART
 abbrev pub HaltsRun : Errand → Stored → (a b : State) → Type 0
 HaltsRun e s a b = Rose a.line_faults b.line_faults ⊎ (b.sent ≡ a.sent) ⊎ HaltsAt (acts_of e s) a b
-
--- every step of the script is lawful, begins only services that the rule of locks and keys allows, and jobs are kept from each of its states to each later one; wherever a stop cuts its acts, what is stored are tables from which all services go on, and a serial run of the commits that are done stores the same; and jobs are kept over runs of any scripts one after another
-pub record RunsLawfully (app : Application) (t : TableRows) (script : List Command) : Type 0 where
-  -- all rows of the first tables outlive a stop
-  pub lasting : durable app.generation t ≡ t
-  pub steps : IsLawful app (started app t) (history app (started app t) script)
-  -- who may start what
-  pub access : EachStep (KeepsAccess app) (started app t) (history app (started app t) script)
-  pub ruleless : HasNoLocks app.generation → IsWithoutRule app.generation
-  pub keyless_runs : HasNoLocks app.generation → RunsAsKeyless app
-  pub jobs : JobsAreKept app (started app t) (history app (started app t) script)
-  pub resumes : (done left : List Act) → trace app t script ≡ done ++ left → CutResumes app t script done
-  pub serial : (done left : List Act) → trace app t script ≡ done ++ left → IsSerialCut app t script done
-  pub runs : (runs : List StoppedRun) → AreRunsFrom app t runs → RunsKeepJobs app t runs
 
 -- this name was handed to attach; `audit` and `make` hand on none
 abbrev pub HandsOn : Word → List ℕ → State → State → Type 0

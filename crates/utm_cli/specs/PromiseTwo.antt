@@ -1,22 +1,18 @@
 -- The words in which the top call over two disks promises.
-use Rattle.std.specs.Prelude.{◌≡◌, ⊤, ◌⊎◌, ℕ, Bool, IsTrue, List, [], ◌∷◌, ◌++◌, take, Option, Some, IsSome, Ok, Err}
+use Rattle.std.specs.Prelude.{◌≡◌, ⊤, ◌⊎◌, ℕ, Bool, IsTrue, List, [], ◌∷◌, ◌++◌, take, IsSome, Ok, Err}
 use Rattle.kd_device.specs.Device.{Rose}
 use Rattle.kd_device.specs.Room.{RoomState}
 use Rattle.kd_records.specs.Identity.{Identity}
 use Rattle.kd_device.specs.Twin.{Both}
-use Rattle.kd_device.specs.declared.half.Half.{Half}
 use Rattle.kdcs_types.specs.declared.act.Act.{Act}
 use Rattle.kdcs_types.specs.Tables.{TableRows}
-use Rattle.abstract_monitor.specs.Trace.{bytes_of, tables_after}
-use Rattle.laws_of_states.specs.Cut.{SentBy}
-use Rattle.kdcfile_copies.specs.Beside.{file_of}
+use Rattle.abstract_monitor.specs.Trace.{bytes_of}
 use Rattle.kdcfile_double.specs.Mended.{BothRest}
-use Rattle.kdcfile_double.specs.Twice.{RoseAt}
 use Rattle.refusals.specs.Lines.{file_line}
 use Rattle.refusals.specs.Statuses.{IsOneOf, status_of_file}
 use Rattle.refusals.specs.declared.error.FileRefusal.{FileRefusal}
 use Rattle.refusals.specs.declared.error.Refusal.{Refusal}
-use Rattle.twin_run.specs.Running.{CountsAs, IsCopyOfTables, IsLastCopy, with_copies}
+use Rattle.call_ends.specs.Stops.{IsStopOfRun, RanTwo}
 use Rattle.call_parts.specs.Asking.{Errand}
 use Rattle.call_parts.specs.Requests.{Request, ReadsTwo}
 use Rattle.utm_cli.specs.Promise.{AuditsOwn}
@@ -24,7 +20,7 @@ use Rattle.call_parts.specs.declared.words.Word.{Word}
 use Rattle.call_parts.specs.declared.words.Word.TheVariants.{Gen, Run, Show, Update, Trail, Audit, Make}
 use Rattle.utm_cli.specs.DoingTwo.{RefusesTwo, StartsTwo, acts_two}
 use Rattle.call_parts.specs.Opening.{identity_of_two}
-use Rattle.call_parts.specs.LeavingTwo.{WasBehind, LeavesUnmadeTwo, SaidTwo, FaultsTwo, MayAttachTwo, AttachesBoth, SameNamesTwo}
+use Rattle.call_parts.specs.LeavingTwo.{SaidTwo, FaultsTwo, MayAttachTwo, AttachesBoth, SameNamesTwo}
 
 -- ---- a call
 
@@ -71,26 +67,7 @@ ForTwoFiles c P = IsTrue c.room.told → IsTrue c.twin.told → (e : Errand) →
 abbrev pub ForTwoRefusal : TwinCall → (Refusal → Type 0) → Type 0
 ForTwoRefusal c P = IsTrue c.room.told → (why : Refusal) → ReadsTwo c.words c.room (Err why) → P why
 
--- ---- a cut
-
--- some first acts were done, with the lines of a half that was behind and of one on which a call failed; files have the tables after them, and these bytes were sent beyond those before
-pub record IsCutOfTwo (keeps : TableRows → Type 0) (t : TableRows) (acts : List Act) (a b : Both) (out : List ℕ) : Type 0 where
-  pub mended : Option Half
-  pub mended_was : (half : Half) → mended ≡ Some half → WasBehind half a
-  pub lost : Option Half
-  pub lost_rose : (half : Half) → lost ≡ Some half → RoseAt half a b
-  pub since : List ℕ
-  pub more : out ≡ a.sent ++ since
-  pub done : List Act
-  pub left : List Act
-  pub whole : with_copies mended acts lost ≡ done ++ left
-  pub files : keeps (tables_after t done)
-  pub bytes : SentBy done left since
-
--- what was sent and the copy that counts are a cut of the acts; and where a byte was sent, so is each half by itself on which no call failed
-pub record IsStopOfRun (i : Identity) (t : TableRows) (acts : List Act) (a b : Both) (c d out : List ℕ) : Type 0 where
-  pub pair : IsCutOfTwo (λ u. CountsAs i u c d) t acts a b out ⊎ LeavesUnmadeTwo a c d out
-  pub alone : (half : Half) → (out ≡ a.sent → ⊥) → (RoseAt half a b → ⊥) → IsCutOfTwo (λ u. IsCopyOfTables i u (file_of half c d)) t acts a b out
+-- ---- a stop
 
 -- both files are as they were, and a front of these bytes was sent
 pub record IsFrontOfTwo (bytes : List ℕ) (a : Both) (c d out : List ℕ) : Type 0 where
@@ -112,18 +89,6 @@ abbrev pub StopsTwo : Errand → TableRows → (a b : Both) → (la lb : ℕ →
 StopsTwo e t a b la lb = BothRest a la → (c d out : List ℕ) → lb a.moment c d out → IsStopBy e.word (identity_of_two e) t (acts_two e t) a b c d out
 
 -- ---- an end
-
--- all was done: the lines of the acts were sent with those of the copies, and each half that is not lost has the last copy; and whatever files a stop leaves of both, the copy that counts has the last tables
-pub record RanTwo (i : Identity) (t : TableRows) (acts : List Act) (a b : Both) (lb : ℕ → List ℕ → List ℕ → List ℕ → Type 0) : Type 0 where
-  pub mended : Option Half
-  pub mended_was : (half : Half) → mended ≡ Some half → WasBehind half a
-  pub lost : Option Half
-  pub lost_rose : (half : Half) → lost ≡ Some half → RoseAt half a b
-  pub mended_all : (half : Half) → WasBehind half a → (mended ≡ Some half) ⊎ (lost ≡ Some half)
-  pub sent : b.sent ≡ a.sent ++ bytes_of (with_copies mended acts lost)
-  pub counts : CountsAs i (tables_after t acts) b.first.holds b.second.holds
-  pub counts_after : (c d : List ℕ) → lb b.moment c d b.sent → CountsAs i (tables_after t acts) c d
-  pub copies : (half : Half) → (lost ≡ Some half) ⊎ IsLastCopy i half (tables_after t acts) a b lb
 
 abbrev pub EndsBy : Word → Identity → TableRows → List Act → (a b : Both) → (lb : ℕ → List ℕ → List ℕ → List ℕ → Type 0) → Type 0
 EndsBy Gen i t acts a b lb = RanTwo i t acts a b lb

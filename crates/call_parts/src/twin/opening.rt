@@ -40,8 +40,8 @@ fn attach_half<T: Twin>(
     Ok(())
 }
 
-// Attaches both files of this BASE, which stay as they are.
-fn attach_both<T: Twin>(alloc: Global, twin: &mut T, base: &[u8]) -> Result<(), DeviceError>
+/// Attaches both files of this BASE, which stay as they are.
+pub fn attach_both<T: Twin>(alloc: Global, twin: &mut T, base: &[u8]) -> Result<(), DeviceError>
     ensures rests { IsTrue (T.both twin.old).told → RestsBoth (T.both twin.old) (T.both twin.new) (T.leaves twin.old) (T.leaves twin.new) }
     ensures names { IsTrue (T.both twin.old).told → MayAttachTwo base.now (T.both twin.old) (T.both twin.new) }
     ensures named { OnOk result (IsTrue (T.both twin.old).told → AttachesBoth base.now (T.both twin.old) (T.both twin.new)) }

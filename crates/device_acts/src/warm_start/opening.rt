@@ -49,7 +49,7 @@ pub fn limits_of(generation: &Generation) -> StoreLimits
 }
 
 /// The tables that a store keeps, where they are of the texts with this fingerprint and suit the generation.
-fn tables_in(
+pub fn tables_in(
     alloc: Global,
     store: &PagedStore,
     generation: &Generation,

@@ -28,9 +28,9 @@ fn read<D: Device>(device: &mut D) -> Result<([u8; 8], usize), Fail> {
 
 #[test]
 fn a_file_keeps_what_was_written(rt: HostRuntime) -> Result<(), Fail> {
-    assert!(rt; FileDevice::new(&rt).size().is_err());
-    write(&mut FileDevice::new(&rt))?;
-    let found = read(&mut FileDevice::new(&rt))?;
+    assert!(rt; FileDevice::new(&rt, "utm").size().is_err());
+    write(&mut FileDevice::new(&rt, "utm"))?;
+    let found = read(&mut FileDevice::new(&rt, "utm"))?;
     assert!(rt; found == (*b"abc\0\0z--", 6));
     fs::remove_file(&rt, "low_tests_device.tmp")?;
     Ok(())
@@ -39,8 +39,8 @@ fn a_file_keeps_what_was_written(rt: HostRuntime) -> Result<(), Fail> {
 #[test]
 fn a_file_has_one_device(rt: HostRuntime) -> Result<(), Fail> {
     let name = b"low_tests_lock.tmp";
-    let mut first = FileDevice::new(&rt);
-    let mut second = FileDevice::new(&rt);
+    let mut first = FileDevice::new(&rt, "utm");
+    let mut second = FileDevice::new(&rt, "utm");
     first.reserve(2, 100, 0)?;
     second.reserve(2, 100, 0)?;
     first.attach(name)?;

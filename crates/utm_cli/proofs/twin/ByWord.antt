@@ -23,8 +23,9 @@ use Rattle.call_parts.specs.declared.words.Word.TheVariants.{Gen, Run, Show, Upd
 use Rattle.utm_cli.specs.DoingTwo.{KeepsTwo, RefusesTwoBy, RefusesTwo, StartsTwoBy, StartsTwo, acts_two}
 use Rattle.call_parts.specs.Opening.{OpensTwo, OpeningRefusesTwo, identity_of_two}
 use Rattle.call_parts.specs.LeavingTwo.{AttachesBoth, MayAttachTwo, SaidTwo, SameNamesTwo}
-use Rattle.utm_cli.specs.PromiseTwo.{AttachesTwoBy, EndsBy, IsFrontOfTwo, IsStopBy, IsStopOfRun, MayAttachTwoBy, RanTwo, TellsTwo}
-use Rattle.utm_cli.proofs.twin.Answered.{names_then}
+use Rattle.call_ends.specs.Stops.{IsStopOfRun, RanTwo}
+use Rattle.utm_cli.specs.PromiseTwo.{AttachesTwoBy, EndsBy, IsFrontOfTwo, IsStopBy, MayAttachTwoBy, TellsTwo}
+use Rattle.call_ends.specs.SaidLaws.{names_then}
 
 -- what holds of both words that keep copies
 by_kept : (P : Word → Type 0) → P Gen → P Run → (word : Word) → KeepsTwo word → P word

@@ -27,7 +27,8 @@ use Rattle.utm_cli.specs.Parts.{LooksBytes}
 use Rattle.utm_cli.specs.PartsTwo.{EndsErrandTwo}
 use Rattle.call_parts.specs.Requests.{AsksNothing, Misses, Request, IsSingleCall, ReadsTwo}
 use Rattle.call_parts.specs.Leaving.{CallFailed}
-use Rattle.utm_cli.specs.Promise.{RunsLawfully, call}
+use Rattle.call_ends.specs.LawfulRuns.{RunsLawfully}
+use Rattle.utm_cli.specs.Promise.{call}
 use Rattle.utm_cli.specs.PromiseTwo.{AttachesTwoBy, EndsTwo, MayAttachTwoBy}
 use Rattle.call_parts.specs.LeavingTwo.{FaultsTwo, FrameTwin, SaidTwo, SaysPartTwo}
 use Rattle.utm_cli.specs.PromiseTwo.{SaysWhyTwo, StopsTwo, TellsTwo, twin_call}
@@ -36,9 +37,10 @@ use Rattle.call_parts.specs.declared.words.Word.TheVariants.{Audit, Make}
 use Rattle.call_parts.specs.Words.{IsOfBase, usage_line}
 use Rattle.utm_cli.proofs.Answering.{StopsHere, not_early, of_texts, run_other, some_form, texts_is, texts_other, usage_call}
 use Rattle.utm_cli.proofs.Audited.{own_errand, own_not_refused, own_reading_two}
-use Rattle.utm_cli.proofs.twin.Answered.{fine_then, none_failed, same_frame}
+use Rattle.call_ends.specs.SaidLaws.{fine_then, none_failed, same_frame}
 use Rattle.utm_cli.proofs.twin.ByWord.{none_attached}
-use Rattle.utm_cli.proofs.twin.Stays.{none_said, stays_same, stays_stops}
+use Rattle.call_ends.specs.OpenedLaws.{none_said}
+use Rattle.utm_cli.proofs.twin.Stays.{stays_same, stays_stops}
 use Rattle.call_parts.proofs.OneHalf.{files_two, first_refusal, names_two}
 
 -- ---- statuses

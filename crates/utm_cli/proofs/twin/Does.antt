@@ -34,10 +34,10 @@ use Rattle.call_parts.specs.LeavingTwo.{AttachesBoth, FineTwo, FrameTwin, MayAtt
 use Rattle.utm_cli.specs.PromiseTwo.{AttachesTwoBy, IsFrontOfTwo, IsStopBy, MayAttachTwoBy, TellsTwo}
 use Rattle.utm_cli.proofs.twin.ByWord.{SendsBeside, attached_then_none, kept_attaches, kept_ends, kept_is_no_trail, kept_may, kept_opens}
 use Rattle.utm_cli.proofs.twin.ByWord.{kept_refuses, kept_starts, kept_stop, kept_told, none_attached, tells_two}
-use Rattle.utm_cli.proofs.twin.Keeps.{attached_then, faults_of_run, fails_of_run, fine_of_run, frames_then, ran_from, stop_of_run}
+use Rattle.call_ends.specs.StopsLaws.{attached_then, faults_of_run, fails_of_run, fine_of_run, frames_then, ran_from, silent_stop, stop_of_run}
 use Rattle.call_parts.proofs.HandedOn.{acts_failed, device_refuses_nothing, given, handed, no_cause, opening_failed, same_reason}
-use Rattle.utm_cli.proofs.twin.Answered.{fine_then, same_frame}
-use Rattle.utm_cli.proofs.twin.Stays.{front_after, said_after, same_files, silent_stop, stays_same, stays_stops}
+use Rattle.call_ends.specs.SaidLaws.{fine_then, same_frame}
+use Rattle.utm_cli.proofs.twin.Stays.{front_after, said_after, same_files, stays_same, stays_stops}
 
 -- ---- errors
 

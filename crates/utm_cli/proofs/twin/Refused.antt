@@ -1,5 +1,5 @@
 -- Two files are accepted, or refused for one reason.
-use Rattle.std.proofs.Common.{◌≡◌, inl, inr, ℕ, List, [], ◌∷◌, refl, sym, ap, ◌∙◌, arith}
+use Rattle.std.proofs.Common.{◌≡◌, ℕ, [], ◌∷◌, refl, sym, ◌∙◌, arith}
 use Rattle.std.proofs.lemmas.Bool.Decides.{nat_tests}
 use Rattle.refusals.specs.Statuses.{IsOneOf, status_of_file}
 use Rattle.kd_device.specs.Twin.{Both}
@@ -12,45 +12,25 @@ use Rattle.utm_cli.specs.AuditLaws.{differs_once, holds_or_differs}
 use Rattle.utm_cli.specs.Doing.{own}
 use Rattle.call_parts.specs.declared.words.Word.{Word}
 use Rattle.call_parts.specs.declared.words.Word.TheVariants.{Gen, Run, Show, Update, Trail, Audit, Make}
-use Rattle.call_parts.specs.TwoAnswersLaws.{AnswersOfTwoExcludeEachOther, answers_of_two_exclude_each_other}
-use Rattle.call_parts.specs.Opening.{OpensTwo, OpeningRefusesTwo}
+use Rattle.call_ends.specs.OpenedLaws.{opened_or_refused, refused_once}
 use Rattle.utm_cli.specs.DoingTwo.{RefusesTwoBy, RefusesTwo, StartsTwoBy, StartsTwo}
 
 module _ (once : TrailsAreJudgedOnce) (e : Errand) (a : Both) where
-  answer : AnswersOfTwoExcludeEachOther e.application.generation e.fingerprint a.first.holds a.second.holds
-  answer = answers_of_two_exclude_each_other e.application.generation e.fingerprint a.first.holds a.second.holds
-
-  opened_or_refused : (t : TableRows) (r : FileRefusal) → OpensTwo e a t → OpeningRefusesTwo e a r → ⊥
-  opened_or_refused t r opens (inl none) = answer.started_or_refused t opens none.1
-  opened_or_refused t r opens (inr (inl other)) = answer.started_or_other t other.0 opens other.2
-  opened_or_refused t r opens (inr (inr spent)) = answer.started_or_spent t spent.0 opens spent.2
-
-  refused_once : (r q : FileRefusal) → OpeningRefusesTwo e a r → OpeningRefusesTwo e a q → r ≡ q
-  refused_once r q (inl none) (inl again) = none.0 ∙ sym again.0
-  refused_once r q (inl none) (inr (inl other)) = absurd (answer.refused_or_other other.0 none.1 other.2)
-  refused_once r q (inl none) (inr (inr spent)) = absurd (answer.refused_or_spent spent.0 none.1 spent.2)
-  refused_once r q (inr (inl other)) (inl none) = absurd (answer.refused_or_other other.0 none.1 other.2)
-  refused_once r q (inr (inl other)) (inr (inl again)) = other.1 ∙ ap (λ (stored : List ℕ). file.OtherGeneration stored) (answer.other_once other.0 again.0 other.2 again.2) ∙ sym again.1
-  refused_once r q (inr (inl other)) (inr (inr spent)) = absurd (answer.other_or_spent other.0 spent.0 other.2 spent.2)
-  refused_once r q (inr (inr spent)) (inl none) = absurd (answer.refused_or_spent spent.0 none.1 spent.2)
-  refused_once r q (inr (inr spent)) (inr (inl other)) = absurd (answer.other_or_spent other.0 spent.0 other.2 spent.2)
-  refused_once r q (inr (inr spent)) (inr (inr again)) = spent.1 ∙ sym again.1
-
   not_both_by : (word : Word) (t : TableRows) (r : FileRefusal) → StartsTwoBy word e a t → RefusesTwoBy word e a r → ⊥
-  not_both_by Gen t r starts refuses = opened_or_refused t r starts refuses
-  not_both_by Run t r starts refuses = opened_or_refused t r starts refuses
-  not_both_by Show t r starts refuses = opened_or_refused t r starts refuses
+  not_both_by Gen t r starts refuses = opened_or_refused e a t r starts refuses
+  not_both_by Run t r starts refuses = opened_or_refused e a t r starts refuses
+  not_both_by Show t r starts refuses = opened_or_refused e a t r starts refuses
   not_both_by Update t r starts refuses = starts
-  not_both_by Trail t r starts refuses = opened_or_refused t r starts refuses
+  not_both_by Trail t r starts refuses = opened_or_refused e a t r starts refuses
   not_both_by Audit t r starts refuses = holds_or_differs once e (own e t) r starts refuses
   not_both_by (Make n) t r starts refuses = starts
 
   one_reason_by : (word : Word) (r q : FileRefusal) → RefusesTwoBy word e a r → RefusesTwoBy word e a q → r ≡ q
-  one_reason_by Gen r q h k = refused_once r q h k
-  one_reason_by Run r q h k = refused_once r q h k
-  one_reason_by Show r q h k = refused_once r q h k
+  one_reason_by Gen r q h k = refused_once e a r q h k
+  one_reason_by Run r q h k = refused_once e a r q h k
+  one_reason_by Show r q h k = refused_once e a r q h k
   one_reason_by Update r q h k = h ∙ sym k
-  one_reason_by Trail r q h k = refused_once r q h k
+  one_reason_by Trail r q h k = refused_once e a r q h k
   one_reason_by Audit r q h k = differs_once once e r q h k
   one_reason_by (Make n) r q h k = absurd h
 

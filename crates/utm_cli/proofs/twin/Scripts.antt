@@ -4,9 +4,6 @@ use Rattle.std.specs.Prelude.{sum_by, ◌^◌}
 use Rattle.kd_records.specs.Identity.{Identity}
 use Rattle.kd_device.specs.Twin.{Both}
 use Rattle.application_types.specs.Soundness.{AreLimits}
-use Rattle.kdcfile_store.specs.Paged.{identity_with}
-use Rattle.kdcfile_store.specs.declared.store.StoreLimits.{StoreLimits}
-use Rattle.application_types.specs.Generation.{Generated}
 use Rattle.kdcs_types.specs.declared.act.Act.{Act}
 use Rattle.kdcs_types.specs.Tables.{TableRows}
 use Rattle.abstract_monitor.specs.State.{Application}
@@ -20,22 +17,16 @@ use Rattle.monitor_core.specs.CoreSteps.{durable_of, turns_of}
 use Rattle.monitor_core.specs.CoreValue.{CoreValue}
 use Rattle.kdcfile_double.specs.Opening.{KeepsTablesTwice, identity_twice}
 use Rattle.kdcfile_double.specs.Twice.{Twice, identity_of}
-use Rattle.twin_run.specs.Keeping.{one_more}
 use Rattle.twin_run.specs.Running.{IsRunningTwice, RanTwice, WithinTwice}
 use Rattle.call_parts.specs.Asking.{CanRun, Errand, app_of}
 use Rattle.call_parts.specs.Report.{report}
 use Rattle.utm_cli.proofs.Doing.{core_is, durable_is as durable_begun}
 use Rattle.call_parts.specs.declared.words.Word.{Word}
 use Rattle.call_parts.specs.declared.words.Word.TheVariants.{Gen, Run}
-use Rattle.device_acts.specs.Stands.{limits_of}
 use Rattle.utm_cli.specs.Doing.{acts_by, own}
 use Rattle.utm_cli.specs.DoingTwo.{acts_two}
 use Rattle.call_parts.specs.Opening.{identity_of_two}
 use Rattle.utm_cli.proofs.Turns.{turns_from}
-
--- the copies were made with the limits of the generation, with one page more
-pub made_for : (g : Generated) (fingerprint : List ℕ) (i : Identity) → i ≡ identity_twice g fingerprint → (l : StoreLimits) → l ≡ limits_of g → i ≡ one_more (identity_with l fingerprint)
-made_for g fingerprint i is l made = is ∙ ap (λ (k : StoreLimits). one_more (identity_with k fingerprint)) (sym made)
 
 -- facts of copies, in words of what they were made with
 module _ (i : Identity) (s : Twice) (identity : identity_of s ≡ i) (t : TableRows) (acts : List Act) (a b : Both) where
@@ -96,9 +87,6 @@ module _ (e : Errand) (t : TableRows) (core : CoreValue) (application : core.app
           subst (λ (u : TableRows). RanTwice (identity_of_two e) s u (acts_two e t) a b lb) durable_is (subst (λ (l : List Act). RanTwice (identity_of_two e) s (durable_of core) l a b lb) script_is own)
 
 -- ---- the script as it is handed on
-
-pub parts_made_for : (e : Errand) (s : Twice) (t : TableRows) → KeepsTablesTwice (identity_of_two e) s t → (l : StoreLimits) → l ≡ limits_of e.application.generation → identity_of s ≡ one_more (identity_with l e.fingerprint)
-parts_made_for e s t keeps l made = made_for e.application.generation e.fingerprint (identity_of s) keeps.identity_is l made
 
 module _ (e : Errand) (t : TableRows) (core : CoreValue) (application : core.application ≡ app_of e) (state : core.state ≡ started core.application t) (steps : core.steps ≡ 0) (suits : Suits e.application.generation t) (commands : List Command) (is : commands ≡ e.commands) where
   pub parts_turns : CanRun e → core.steps + sum_by turns_of commands ≤ 10 ^ 18

@@ -1,44 +1,28 @@
 -- Files that stay as they are, and a line that is said then: what a stop leaves.
-use Rattle.std.proofs.Common.{◌≡◌, ◌⊎◌, inl, inr, ⊎_elim, ℕ, List, [], ◌++◌, take, None, refl, sym, ap, subst, ◌∙◌, arith}
+use Rattle.std.proofs.Common.{◌≡◌, inl, inr, ⊎_elim, ℕ, List, [], ◌++◌, take, refl, sym, ap, subst, ◌∙◌, arith}
 use Rattle.std.proofs.lemmas.List.{append-nil}
 use Rattle.kd_device.specs.Twin.{Both, Disk}
 use Rattle.kd_device.specs.declared.half.Half.{Half}
 use Rattle.kd_device.specs.declared.half.Half.TheVariants.{First, Second}
-use Rattle.kd_records.specs.Identity.{Identity}
 use Rattle.kdcs_types.specs.declared.act.Act.{Act}
 use Rattle.kdcs_types.specs.Tables.{TableRows}
-use Rattle.abstract_monitor.specs.Trace.{bytes_of, tables_after}
+use Rattle.abstract_monitor.specs.Trace.{bytes_of}
 use Rattle.kdcfile_copies.specs.Copies.{IsNoCopy}
 use Rattle.kdcfile_double.specs.ChoiceLaws.{nothing_is_no_copy}
 use Rattle.kdcfile_double.specs.Mended.{BothRest}
 use Rattle.kdcfile_double.specs.Opening.{SameFiles, Unchanged}
 use Rattle.kdcfile_copies.specs.Beside.{LeavesFrontBoth, SaidBoth, SameDisk}
-use Rattle.twin_run.specs.Running.{CountsAs, with_copies}
+use Rattle.twin_run.specs.Running.{CountsAs}
 use Rattle.call_parts.specs.Asking.{Errand}
 use Rattle.call_parts.specs.declared.words.Word.{Word}
 use Rattle.call_parts.specs.declared.words.Word.TheVariants.{Gen, Run, Show, Update, Trail, Audit, Make}
 use Rattle.call_parts.specs.Opening.{OpensTwo, identity_of_two}
 use Rattle.utm_cli.specs.DoingTwo.{StartsTwoBy, StartsTwo, acts_two}
 use Rattle.call_parts.specs.OpeningTwo.{StaysAsItIs}
-use Rattle.utm_cli.specs.PromiseTwo.{IsCutOfTwo, IsFrontOfTwo, IsStopBy, IsStopOfRun, StopsTwo}
-use Rattle.call_parts.specs.LeavingTwo.{LeavesUnmadeTwo, SaidTwo, SaysPartTwo}
-
--- nothing was done
-pub cut_none : (keeps : TableRows → Type 0) (t : TableRows) (acts : List Act) (a b : Both) (out : List ℕ) → out ≡ a.sent → keeps t → IsCutOfTwo keeps t acts a b out
-unfolding tables_after bytes_of
-cut_none keeps t acts a b out silent file = record {
-  mended = None;
-  mended_was = λ half is. absurd cc;
-  lost = None;
-  lost_rose = λ half is. absurd cc;
-  since = [];
-  more = silent ∙ sym (append-nil a.sent);
-  done = [];
-  left = with_copies None acts None;
-  whole = refl;
-  files = file;
-  bytes = inl refl;
-}
+use Rattle.call_ends.specs.Stops.{IsStopOfRun}
+use Rattle.call_ends.specs.StopsLaws.{silent_stop}
+use Rattle.utm_cli.specs.PromiseTwo.{IsFrontOfTwo, IsStopBy, StopsTwo}
+use Rattle.call_parts.specs.LeavingTwo.{SaidTwo}
 
 -- no bytes, so no copy
 none_of_nothing : (c holds : List ℕ) → c ≡ holds → holds ≡ [] → IsNoCopy c
@@ -49,13 +33,6 @@ pub record IsAsBefore (a : Both) (c d out : List ℕ) : Type 0 where
   pub first : c ≡ a.first.holds
   pub second : d ≡ a.second.holds
   pub silent : out ≡ a.sent
-
--- a stop that sent nothing leaves a cut of which nothing is done, or files that are not made yet
-pub silent_stop : (i : Identity) (t : TableRows) (acts : List Act) (a b : Both) (c d out : List ℕ) → out ≡ a.sent → CountsAs i t c d ⊎ LeavesUnmadeTwo a c d out → IsStopOfRun i t acts a b c d out
-silent_stop i t acts a b c d out silent files = record {
-  pair = ⊎_elim (λ counts. inl (cut_none (λ u. CountsAs i u c d) t acts a b out silent counts)) (λ unmade. inr unmade) files;
-  alone = λ half more. absurd (more silent);
-}
 
 module _ (e : Errand) (acts : List Act) (t : TableRows) (a b : Both) (c d out : List ℕ) (same : IsAsBefore a c d out) where
   as_opened : OpensTwo e a t → IsStopOfRun (identity_of_two e) t acts a b c d out
@@ -128,7 +105,3 @@ module _ (line : List ℕ) (a m b : Both) (la lm lb : ℕ → List ℕ → List 
       within (past, part) =
           let same = as_before a m la lm stays rest silent c d m.sent (earlier c d m.sent past) in
           record { first_same = same.first; second_same = same.second; front = (part.0, part.1 ∙ ap (λ (s : List ℕ). s ++ take part.0 line) stays.sent) }
-
--- nothing was said
-pub none_said : (line : List ℕ) (a b : Both) (la lb : ℕ → List ℕ → List ℕ → List ℕ → Type 0) → StaysAsItIs a b la lb → SaysPartTwo line a b
-none_said line a b la lb stays = record { files = stays.files; front = (0, stays.sent ∙ sym (append-nil a.sent)) }

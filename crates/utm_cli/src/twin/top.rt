@@ -3,9 +3,10 @@ ghost use Rattle.std.specs.{Prelude.{map}, String.{string_bytes}};
 ghost use Rattle.utm_cli.specs.Answers.{AnswersTwo};
 ghost use Rattle.utm_cli.specs.PromiseTwo.{twin_call};
 
-use crate::lawful::{scripts_run_lawfully, suited_scripts_run_lawfully};
+use crate::lawful::scripts_run_lawfully;
 use crate::twin::beside::run_first;
 use crate::twin::double::double;
+use call_ends::scripts_of_suited_tables_run_lawfully;
 use call_parts::{
     Asked, Cause, TwoFiles, read_texts, refuse_beside, request_of, texts_of_two_can_run,
 };
@@ -32,7 +33,7 @@ pub fn utm_twin<R: Room, T: Twin>(
 {
     scripts_run_lawfully();
     texts_of_two_can_run();
-    suited_scripts_run_lawfully();
+    scripts_of_suited_tables_run_lawfully();
     own_trails_hold();
     verdicts_exclude_each_other();
     let Some((word, base)) = request_of(words) else {

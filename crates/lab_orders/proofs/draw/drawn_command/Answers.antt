@@ -3,8 +3,7 @@ use Rattle.std.proofs.lemmas.Result.{IfOk-weaker}
 use Rattle.monitor_core.specs.CoreValue.{CoreValue}
 use Rattle.lab_orders.specs.Walking.{tries_of}
 use Rattle.lab_orders.proofs.Drawing.{command_drew, run_drew}
-use Rattle.lab_orders.proofs.Moves.{no_run}
-use Rattle.lab_orders.proofs.Walking.{one_try}
+use Rattle.lab_orders.proofs.Commands.{no_run, one_try}
 use Rattle.lab_orders.proofs.draw.drawn_command.Goals as goal
 
 pub returns-in-Run-clause-drew : goal.returns-in-Run-clause-drew

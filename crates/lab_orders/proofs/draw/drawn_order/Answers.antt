@@ -1,8 +1,8 @@
-use Rattle.std.proofs.Common.{[], arith, subst, sym, ◌∙◌}
+use Rattle.std.proofs.Common.{arith, subst, sym, ◌∙◌}
 use Rattle.abstract_monitor.specs.State.{Application}
 use Rattle.laws_of_runs.specs.Applied.{applied}
 use Rattle.laws_of_states.specs.Keeping.{IsScriptOf}
-use Rattle.lab_orders.proofs.Finding.{drawn_found}
+use Rattle.lab_orders.proofs.Found.{drawn_found}
 use Rattle.lab_orders.proofs.draw.drawn_order.Goals as goal
 
 pub drawn_walk-requires-clause-names : goal.drawn_walk-requires-clause-names
@@ -22,5 +22,5 @@ returns-clause-again c = record {
 
 pub returns-clause-order : goal.returns-clause-order
 returns-clause-order c =
-    drawn_found (applied c.args.generation c.args.units) c.args.tables.now c.args.commands.now [] c.in_ok-core.core c.in_ok-core.path c.in_ok-core.ensures c.in_ok-core-2.core c.drawn_walk.new.path c.in_ok-found.found
+    drawn_found (applied c.args.generation c.args.units) c.args.tables.now c.args.commands.now c.in_ok-core.core c.in_ok-core.path c.in_ok-core.ensures c.in_ok-core-2.core c.drawn_walk.new.path c.in_ok-found.found
     c.in_ok-found.ensures.turns c.in_ok-found.ensures.sent c.in_ok-found.ensures.tables c.in_ok-core-2.ensures

@@ -1,5 +1,5 @@
 use Rattle.std.proofs.Common.{rules}
-use Rattle.lab_orders.proofs.Choosing.{tried_effect, tried_none}
+use Rattle.lab_orders.proofs.Trying.{tried_effect, tried_none}
 use Rattle.lab_orders.proofs.turns.try_turn.Goals as goal
 
 pub returns-then-not-same_wait-clause-tried : goal.returns-then-not-same_wait-clause-tried

@@ -4,7 +4,7 @@ use Rattle.call_parts.specs.Asking.{audit_errand}
 use Rattle.utm_cli.specs.Doing.{HoldsAll, held_line, own}
 use Rattle.call_parts.specs.declared.error.CallError.{CallError}
 use Rattle.call_parts.specs.declared.words.Word.TheVariants.{Audit}
-use Rattle.utm_cli.proofs.twin.Answered.{none_failed}
+use Rattle.call_ends.specs.SaidLaws.{none_failed}
 use Rattle.utm_cli.proofs.twin.ByWord.{judges}
 use Rattle.utm_cli.proofs.twin.Does.{not_looked_at, said_does, stays_does, unsaid_does}
 use Rattle.utm_cli.proofs.twin.double.audit_copies.Goals as goal

@@ -9,10 +9,10 @@ use Rattle.utm_cli.specs.DoingTwo.{RefusesTwo}
 use Rattle.call_parts.specs.LeavingTwo.{SaysPartTwo}
 use Rattle.utm_cli.specs.PromiseTwo.{TellsTwo}
 use Rattle.call_parts.proofs.HandedOn.{refused_not_failed}
-use Rattle.utm_cli.proofs.twin.Answered.{fine_then, part_then, said_then}
+use Rattle.call_ends.specs.SaidLaws.{fine_then, part_then, said_then}
 use Rattle.utm_cli.proofs.twin.ByWord.{attached_then_none, tells_two}
 use Rattle.utm_cli.proofs.twin.Refused.{file_status, not_both, one_reason}
-use Rattle.utm_cli.proofs.twin.Stays.{none_said}
+use Rattle.call_ends.specs.OpenedLaws.{none_said}
 use Rattle.utm_cli.proofs.twin.double.double.Given.{Over}
 use Rattle.utm_cli.proofs.twin.double.double.Goals as goal
 

@@ -6,7 +6,7 @@ use Rattle.call_parts.specs.declared.errand.Task.TheVariants as task
 use Rattle.refusals.specs.declared.error.FileRefusal.TheVariants.{TwoCopies}
 use Rattle.call_parts.specs.declared.error.CallError.TheVariants.{Refused}
 use Rattle.call_parts.specs.declared.words.Word.TheVariants.{Update}
-use Rattle.utm_cli.proofs.twin.Answered.{none_failed}
+use Rattle.call_ends.specs.SaidLaws.{none_failed}
 use Rattle.utm_cli.proofs.twin.Does.{not_looked_at, refused_does}
 use Rattle.utm_cli.proofs.twin.double.over_copies.Goals as goal
 

@@ -2,7 +2,7 @@ use Rattle.std.proofs.Common.{refl, ◌∙◌}
 use Rattle.std.proofs.lemmas.Result.{on_ok_weaker}
 use Rattle.kdcfile_double.specs.CommitTwoLaws.{fine_still}
 use Rattle.call_parts.specs.Asking.{gen_errand}
-use Rattle.utm_cli.proofs.twin.Keeps.{nothing_within}
+use Rattle.call_ends.specs.StopsLaws.{nothing_within}
 use Rattle.utm_cli.proofs.twin.Scripts.{report_ran, report_within}
 use Rattle.utm_cli.proofs.twin.double.report_copies.Goals as goal
 

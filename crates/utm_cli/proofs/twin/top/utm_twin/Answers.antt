@@ -58,7 +58,7 @@ returns-in-Err-Room g c =
     let a = g.T.Twin.both c.args.twin.now in
     let la = g.T.Twin.leaves c.args.twin.now in
     record {
-      answers = room_call c.own_trails_hold.ensures (map string_bytes c.args.words.now.items) (g.R.Room.room c.args.room.now) (g.R.Room.room c.read_texts.new.room) (laws_over_two c.texts_of_two_can_run.ensures c.suited_scripts_run_lawfully.ensures (map string_bytes c.args.words.now.items) (g.R.Room.room c.args.room.now)) c.in-Some.word c.in-Some.base.now (asked_words _ _ _ c.in-Some.word c.in-Some.base.now c.deref.ensures.value c.in-Some.ensures.value) c.in-Err-Room.ensures.same a la (g.met.T.Twin.sent_now c.args.twin.now) (c.in-Err-Room.ensures.room is) (λ sure d u t there. c.in-Err-Room.ensures.sure sure d u t there is)
+      answers = room_call c.own_trails_hold.ensures (map string_bytes c.args.words.now.items) (g.R.Room.room c.args.room.now) (g.R.Room.room c.read_texts.new.room) (laws_over_two c.texts_of_two_can_run.ensures c.scripts_of_suited_tables_run_lawfully.ensures (map string_bytes c.args.words.now.items) (g.R.Room.room c.args.room.now)) c.in-Some.word c.in-Some.base.now (asked_words _ _ _ c.in-Some.word c.in-Some.base.now c.deref.ensures.value c.in-Some.ensures.value) c.in-Err-Room.ensures.same a la (g.met.T.Twin.sent_now c.args.twin.now) (c.in-Err-Room.ensures.room is) (λ sure d u t there. c.in-Err-Room.ensures.sure sure d u t there is)
           (without_room (map string_bytes c.args.words.now.items) (g.R.Room.room c.args.room.now) (g.R.Room.room c.read_texts.new.room) c.in-Some.word c.in-Some.base.now (asked_words _ _ _ c.in-Some.word c.in-Some.base.now c.deref.ensures.value c.in-Some.ensures.value) c.in-Err-Room.ensures.same (c.scripts_run_lawfully.ensures (map string_bytes c.args.words.now.items) (g.R.Room.room c.args.room.now)) c.own_trails_hold.ensures (half_state First a) (half_leaves First la) (stops_at_first a la (g.met.T.Twin.holds_now c.args.twin.now) (g.met.T.Twin.sent_now c.args.twin.now)) (λ n make. c.in-Err-Room.ensures.made_there n make is) (c.in-Err-Room.ensures.room is) (λ sure d u t there. c.in-Err-Room.ensures.sure sure d u t there is));
     }
 
@@ -68,7 +68,7 @@ returns-in-Err-Memory g c =
     let a = g.T.Twin.both c.args.twin.now in
     let la = g.T.Twin.leaves c.args.twin.now in
     record {
-      answers = memory_call c.own_trails_hold.ensures (map string_bytes c.args.words.now.items) (g.R.Room.room c.args.room.now) (g.R.Room.room c.read_texts.new.room) (laws_over_two c.texts_of_two_can_run.ensures c.suited_scripts_run_lawfully.ensures (map string_bytes c.args.words.now.items) (g.R.Room.room c.args.room.now)) c.in-Some.word c.in-Some.base.now (asked_words _ _ _ c.in-Some.word c.in-Some.base.now c.deref.ensures.value c.in-Some.ensures.value) c.in-Err-Memory.ensures.same a la (g.met.T.Twin.sent_now c.args.twin.now) (c.in-Err-Memory.ensures.memory is)
+      answers = memory_call c.own_trails_hold.ensures (map string_bytes c.args.words.now.items) (g.R.Room.room c.args.room.now) (g.R.Room.room c.read_texts.new.room) (laws_over_two c.texts_of_two_can_run.ensures c.scripts_of_suited_tables_run_lawfully.ensures (map string_bytes c.args.words.now.items) (g.R.Room.room c.args.room.now)) c.in-Some.word c.in-Some.base.now (asked_words _ _ _ c.in-Some.word c.in-Some.base.now c.deref.ensures.value c.in-Some.ensures.value) c.in-Err-Memory.ensures.same a la (g.met.T.Twin.sent_now c.args.twin.now) (c.in-Err-Memory.ensures.memory is)
           (without_memory (map string_bytes c.args.words.now.items) (g.R.Room.room c.args.room.now) (g.R.Room.room c.read_texts.new.room) c.in-Some.word c.in-Some.base.now (asked_words _ _ _ c.in-Some.word c.in-Some.base.now c.deref.ensures.value c.in-Some.ensures.value) c.in-Err-Memory.ensures.same (c.scripts_run_lawfully.ensures (map string_bytes c.args.words.now.items) (g.R.Room.room c.args.room.now)) c.own_trails_hold.ensures (half_state First a) (half_leaves First la) (stops_at_first a la (g.met.T.Twin.holds_now c.args.twin.now) (g.met.T.Twin.sent_now c.args.twin.now)) (c.in-Err-Memory.ensures.memory is));
     }
 
@@ -77,7 +77,7 @@ returns-in-Err-Memory g c =
 pub returns-in-Ok-Two-default-Over : goal.returns-in-Ok-Two-default-Over
 returns-in-Ok-Two-default-Over g c =
     record {
-      answers = double_call c.own_trails_hold.ensures (map string_bytes c.args.words.now.items) (g.R.Room.room c.args.room.now) (g.R.Room.room c.read_texts.new.room) (laws_over_two c.texts_of_two_can_run.ensures c.suited_scripts_run_lawfully.ensures (map string_bytes c.args.words.now.items) (g.R.Room.room c.args.room.now)) c.in-Some.word c.in-Some.base.now (asked_words _ _ _ c.in-Some.word c.in-Some.base.now c.deref.ensures.value c.in-Some.ensures.value) c.in-Ok-Two-default-Over.ensures.same c.verdicts_exclude_each_other.ensures c.in-Ok-Two-default-Over.ensures.fine (g.T.Twin.both c.args.twin.now) (g.T.Twin.both c.double.new.twin) (g.T.Twin.leaves c.args.twin.now) (g.T.Twin.leaves c.double.new.twin) c.double.result.code (errand_for c.in-Ok-Two-default-Over.work c.in-Ok-Two-default-Over.task) (of_two_word c.in-Some.word c.in-Some.base.now (g.R.Room.room c.args.room.now) _ c.in-Ok-Two-default-Over.ensures.says c.in-Ok-Two-default-Over._line (files.Over c.in-Ok-Two-default-Over.work c.in-Ok-Two-default-Over.task) (c.in-Ok-Two-default-Over.field-0-is ∙ ap (λ (k : TwoFiles). Two c.in-Ok-Two-default-Over._line k) c.in-Ok-Two-default-Over.field-0-1-is) c.in-Ok-Two-default-Over.ensures.word)
+      answers = double_call c.own_trails_hold.ensures (map string_bytes c.args.words.now.items) (g.R.Room.room c.args.room.now) (g.R.Room.room c.read_texts.new.room) (laws_over_two c.texts_of_two_can_run.ensures c.scripts_of_suited_tables_run_lawfully.ensures (map string_bytes c.args.words.now.items) (g.R.Room.room c.args.room.now)) c.in-Some.word c.in-Some.base.now (asked_words _ _ _ c.in-Some.word c.in-Some.base.now c.deref.ensures.value c.in-Some.ensures.value) c.in-Ok-Two-default-Over.ensures.same c.verdicts_exclude_each_other.ensures c.in-Ok-Two-default-Over.ensures.fine (g.T.Twin.both c.args.twin.now) (g.T.Twin.both c.double.new.twin) (g.T.Twin.leaves c.args.twin.now) (g.T.Twin.leaves c.double.new.twin) c.double.result.code (errand_for c.in-Ok-Two-default-Over.work c.in-Ok-Two-default-Over.task) (of_two_word c.in-Some.word c.in-Some.base.now (g.R.Room.room c.args.room.now) _ c.in-Ok-Two-default-Over.ensures.says c.in-Ok-Two-default-Over._line (files.Over c.in-Ok-Two-default-Over.work c.in-Ok-Two-default-Over.task) (c.in-Ok-Two-default-Over.field-0-is ∙ ap (λ (k : TwoFiles). Two c.in-Ok-Two-default-Over._line k) c.in-Ok-Two-default-Over.field-0-1-is) c.in-Ok-Two-default-Over.ensures.word)
           (of_two c.in-Some.word c.in-Some.base.now (g.R.Room.room c.args.room.now) _ c.in-Ok-Two-default-Over.ensures.says c.in-Ok-Two-default-Over._line (files.Over c.in-Ok-Two-default-Over.work c.in-Ok-Two-default-Over.task) (c.in-Ok-Two-default-Over.field-0-is ∙ ap (λ (k : TwoFiles). Two c.in-Ok-Two-default-Over._line k) c.in-Ok-Two-default-Over.field-0-1-is) c.in-Ok-Two-default-Over.ensures.word) (λ told misses. not_missed (map string_bytes c.args.words.now.items) (g.R.Room.room c.args.room.now) c.in-Some.word c.in-Some.base.now (asked_words _ _ _ c.in-Some.word c.in-Some.base.now c.deref.ensures.value c.in-Some.ensures.value) _ (double_found c.in-Some.word c.in-Some.base.now (g.R.Room.room c.args.room.now) _ c.in-Ok-Two-default-Over.ensures.says c.in-Ok-Two-default-Over._line (files.Over c.in-Ok-Two-default-Over.work c.in-Ok-Two-default-Over.task) (c.in-Ok-Two-default-Over.field-0-is ∙ ap (λ (k : TwoFiles). Two c.in-Ok-Two-default-Over._line k) c.in-Ok-Two-default-Over.field-0-1-is) (inl told)) misses) (two_found c.in-Some.word c.in-Some.base.now (g.R.Room.room c.args.room.now) _ c.in-Ok-Two-default-Over.ensures.says c.in-Ok-Two-default-Over._line (files.Over c.in-Ok-Two-default-Over.work c.in-Ok-Two-default-Over.task) (c.in-Ok-Two-default-Over.field-0-is ∙ ap (λ (k : TwoFiles). Two c.in-Ok-Two-default-Over._line k) c.in-Ok-Two-default-Over.field-0-1-is)) (two_alone c.in-Some.word c.in-Some.base.now (g.R.Room.room c.args.room.now) _ c.in-Ok-Two-default-Over.ensures.says c.in-Ok-Two-default-Over._line (files.Over c.in-Ok-Two-default-Over.work c.in-Ok-Two-default-Over.task) (c.in-Ok-Two-default-Over.field-0-is ∙ ap (λ (k : TwoFiles). Two c.in-Ok-Two-default-Over._line k) c.in-Ok-Two-default-Over.field-0-1-is))
           (record {
             code = c.double.ensures.code;
@@ -103,7 +103,7 @@ returns-in-Ok-Two-default-Refused g c =
     let a = g.T.Twin.both c.args.twin.now in
     let b = g.T.Twin.both c.refuse_beside-in-Ok-Two-default-Refused.new.twin in
     record {
-      answers = refused_two_call c.own_trails_hold.ensures (map string_bytes c.args.words.now.items) (g.R.Room.room c.args.room.now) (g.R.Room.room c.read_texts.new.room) (laws_over_two c.texts_of_two_can_run.ensures c.suited_scripts_run_lawfully.ensures (map string_bytes c.args.words.now.items) (g.R.Room.room c.args.room.now)) c.in-Some.word c.in-Some.base.now (asked_words _ _ _ c.in-Some.word c.in-Some.base.now c.deref.ensures.value c.in-Some.ensures.value) c.in-Ok-Two-default-Refused.ensures.same c.in-Ok-Two-default-Refused.ensures.fine a b (g.T.Twin.leaves c.args.twin.now) (g.T.Twin.leaves c.refuse_beside-in-Ok-Two-default-Refused.new.twin) c.refuse_beside-in-Ok-Two-default-Refused.result.code c.in-Ok-Two-default-Refused.why
+      answers = refused_two_call c.own_trails_hold.ensures (map string_bytes c.args.words.now.items) (g.R.Room.room c.args.room.now) (g.R.Room.room c.read_texts.new.room) (laws_over_two c.texts_of_two_can_run.ensures c.scripts_of_suited_tables_run_lawfully.ensures (map string_bytes c.args.words.now.items) (g.R.Room.room c.args.room.now)) c.in-Some.word c.in-Some.base.now (asked_words _ _ _ c.in-Some.word c.in-Some.base.now c.deref.ensures.value c.in-Some.ensures.value) c.in-Ok-Two-default-Refused.ensures.same c.in-Ok-Two-default-Refused.ensures.fine a b (g.T.Twin.leaves c.args.twin.now) (g.T.Twin.leaves c.refuse_beside-in-Ok-Two-default-Refused.new.twin) c.refuse_beside-in-Ok-Two-default-Refused.result.code c.in-Ok-Two-default-Refused.why
           (of_two c.in-Some.word c.in-Some.base.now (g.R.Room.room c.args.room.now) _ c.in-Ok-Two-default-Refused.ensures.says c.in-Ok-Two-default-Refused._line (files.Refused c.in-Ok-Two-default-Refused.why) (c.in-Ok-Two-default-Refused.field-0-is ∙ ap (λ (k : TwoFiles). Two c.in-Ok-Two-default-Refused._line k) c.in-Ok-Two-default-Refused.field-0-1-is) c.in-Ok-Two-default-Refused.ensures.word) (λ told misses. not_missed (map string_bytes c.args.words.now.items) (g.R.Room.room c.args.room.now) c.in-Some.word c.in-Some.base.now (asked_words _ _ _ c.in-Some.word c.in-Some.base.now c.deref.ensures.value c.in-Some.ensures.value) _ (double_found c.in-Some.word c.in-Some.base.now (g.R.Room.room c.args.room.now) _ c.in-Ok-Two-default-Refused.ensures.says c.in-Ok-Two-default-Refused._line (files.Refused c.in-Ok-Two-default-Refused.why) (c.in-Ok-Two-default-Refused.field-0-is ∙ ap (λ (k : TwoFiles). Two c.in-Ok-Two-default-Refused._line k) c.in-Ok-Two-default-Refused.field-0-1-is) (inl told)) misses) (two_found c.in-Some.word c.in-Some.base.now (g.R.Room.room c.args.room.now) _ c.in-Ok-Two-default-Refused.ensures.says c.in-Ok-Two-default-Refused._line (files.Refused c.in-Ok-Two-default-Refused.why) (c.in-Ok-Two-default-Refused.field-0-is ∙ ap (λ (k : TwoFiles). Two c.in-Ok-Two-default-Refused._line k) c.in-Ok-Two-default-Refused.field-0-1-is)) (two_alone c.in-Some.word c.in-Some.base.now (g.R.Room.room c.args.room.now) _ c.in-Ok-Two-default-Refused.ensures.says c.in-Ok-Two-default-Refused._line (files.Refused c.in-Ok-Two-default-Refused.why) (c.in-Ok-Two-default-Refused.field-0-is ∙ ap (λ (k : TwoFiles). Two c.in-Ok-Two-default-Refused._line k) c.in-Ok-Two-default-Refused.field-0-1-is))
           (subst (λ (x : Refusal). SendsRefusalTwo (status_of x) (refusal_line x) a b c.refuse_beside-in-Ok-Two-default-Refused.result.code) c.in-Ok-Two-default-Refused.why-is c.refuse_beside-in-Ok-Two-default-Refused.ensures);
     }

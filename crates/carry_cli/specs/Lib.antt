@@ -1,0 +1,5 @@
+pub mod Kinds
+pub mod Lines
+pub mod Words
+pub mod Seeing
+pub mod Promise

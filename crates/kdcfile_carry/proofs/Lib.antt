@@ -1,0 +1,9 @@
+pub mod Anew
+pub mod Changing
+pub mod Counting
+pub mod FirstUsed
+pub mod Found
+pub mod Gone
+pub mod HalfUsed
+pub mod NewTables
+pub mod Steps

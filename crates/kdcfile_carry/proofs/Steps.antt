@@ -1,0 +1,61 @@
+-- Calls one after another: what they leave, and which of them failed.
+use Rattle.std.specs.Prelude.{◌≡◌, ℕ, List, Option, Some, None, Result, Ok, Err, IfOk}
+use Rattle.std.proofs.Common.{inl, inr, sym, subst, ◌∙◌}
+use Rattle.kd_device.specs.Twin.{Both, other}
+use Rattle.kd_device.specs.declared.half.Half.{Half}
+use Rattle.kd_device.specs.declared.half.Half.TheVariants.{First, Second}
+use Rattle.application_types.specs.Generation.{Generated}
+use Rattle.kdcfile_double.specs.MakingLaws.{RestsBoth, rests_then, rose_then}
+use Rattle.kdcfile_double.specs.Twice.{NoneRose, RoseAt, SameFaultsAt}
+use Rattle.kdcfile_carry.specs.declared.losing.Losses.{Losses}
+use Rattle.kdcfile_carry.specs.declared.outcome.Carried.{Carried}
+use Rattle.kdcfile_carry.specs.declared.outcome.Carried.TheVariants.{UpToDate, Stand, WouldLose}
+use Rattle.kdcfile_carry.specs.Doing.{FailsAlone, RoseOnOne}
+use Rattle.kdcfile_carry.specs.Files.{Files}
+use Rattle.kdcfile_carry.specs.Promise.{Fails, Outcome}
+
+-- ---- both files are as they were
+
+module _ (a b : Both) (la lb : ℕ → List ℕ → List ℕ → List ℕ → Type 0) (rests : RestsBoth a b la lb) (P : List ℕ → List ℕ → Type 0) where
+  pub as_after : P a.first.holds a.second.holds → P b.first.holds b.second.holds
+  as_after h = subst (λ (x : List ℕ). P x b.second.holds) (sym rests.files.first_holds) (subst (λ (x : List ℕ). P a.first.holds x) (sym rests.files.second_holds) h)
+
+-- ---- calls that failed
+
+pub faults_then : (half : Half) (a b e : Both) → NoneRose a b → SameFaultsAt half b e → SameFaultsAt half a e
+faults_then First a b e none same = same ∙ none.first_same
+faults_then Second a b e none same = same ∙ none.second_same
+
+pub rose_on : (half : Half) (a b : Both) → RoseAt half a b → RoseOnOne a b
+rose_on First a b rose = inl rose
+rose_on Second a b rose = inr rose
+
+pub alone_then : (lost : Option Half) (a b e : Both) → NoneRose a b → FailsAlone lost b e → FailsAlone lost a e
+alone_then lost a b e none alone = record {
+  spared = λ half no. faults_then half a b e none (alone.spared half no);
+  failed = λ half is. rose_then half a b e none (alone.failed half is);
+  line = alone.line ∙ none.line_same;
+}
+
+pub fails_then : (o : Carried) (a b e : Both) → NoneRose a b → Fails o b e → Fails o a e
+fails_then (UpToDate lost) a b e none h = alone_then lost a b e none h
+fails_then (Stand gone lost) a b e none h = alone_then lost a b e none h
+fails_then (WouldLose rows) a b e none h = alone_then None a b e none h
+
+pub outcome_then : (g : Generated) (fingerprint : List ℕ) (losses : Losses) (f : Files) (o : Carried) (a b e : Both) (la lb le : ℕ → List ℕ → List ℕ → List ℕ → Type 0) → RestsBoth a b la lb → Outcome g fingerprint losses f o b e lb le → Outcome g fingerprint losses f o a e la le
+outcome_then g fingerprint losses f (UpToDate lost) a b e la lb le rests h = h
+outcome_then g fingerprint losses f (Stand gone lost) a b e la lb le rests h = h
+outcome_then g fingerprint losses f (WouldLose rows) a b e la lb le rests h = (h.0, h.1, h.2, h.3, rests_then a b la lb rests e le h.4)
+
+pub alone_of : (source : Half) (lost : Option Half) (a b : Both) → ((half : Half) → lost ≡ Some half → (half ≡ other source) × RoseAt half a b) → ((half : Half) → (lost ≡ Some half → ⊥) → SameFaultsAt half a b) → b.line_faults ≡ a.line_faults → FailsAlone lost a b
+alone_of source lost a b rose same line = record { spared = same; failed = λ half is. (rose half is).1; line = line }
+
+-- ---- answers
+
+pub if_ok_weaker : {A E : Type 0} (P Q : A → Type 0) (r : Result A E) → ((v : A) → P v → Q v) → IfOk r P → IfOk r Q
+if_ok_weaker P Q (Ok v) f h = f v h
+if_ok_weaker P Q (Err e) f h = h
+
+pub if_ok_both : {A E : Type 0} (P Q R : A → Type 0) (r : Result A E) → ((v : A) → P v → Q v → R v) → IfOk r P → IfOk r Q → IfOk r R
+if_ok_both P Q R (Ok v) f h k = f v h k
+if_ok_both P Q R (Err e) f h k = h

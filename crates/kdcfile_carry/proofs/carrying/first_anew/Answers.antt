@@ -1,0 +1,61 @@
+use Rattle.std.proofs.Common.{◌≡◌, Some, subst}
+use Rattle.std.specs.Prelude.{IsTrue}
+use Rattle.kd_device.specs.declared.half.Half.{Half}
+use Rattle.kd_device.specs.declared.half.Half.TheVariants.{First, Second}
+use Rattle.kdcfile_carry.specs.Files.{AreFiles}
+use Rattle.kdcfile_carry.specs.Keeping.{IsSource, files_in}
+use Rattle.kdcfile_carry.specs.Leaving.{EachStands, StaysWithin}
+use Rattle.kdcfile_carry.proofs.Steps.{rose_on}
+use Rattle.kdcfile_carry.specs.LeavingLaws.{stays_weaker}
+use Rattle.kdcfile_carry.proofs.Changing.{has_anew, numbered, open_second, source_anew, source_in, source_second}
+use Rattle.kdcfile_carry.proofs.carrying.first_anew.Given.{Over}
+use Rattle.kdcfile_carry.proofs.carrying.first_anew.Goals.{After-write_anew}
+use Rattle.kdcfile_carry.proofs.carrying.first_anew.Goals as goal
+
+stays : (g : Over) (c : After-write_anew g) → IsTrue (g.T.Twin.both c.args.twin.now).told → StaysWithin (AreFiles (files_in c.args.kept.now)) (g.T.Twin.both c.args.twin.now) (g.T.Twin.both c.write_anew.new.twin) (g.T.Twin.leaves c.args.twin.now) (g.T.Twin.leaves c.write_anew.new.twin)
+stays g c told =
+    let k = c.args.kept.now in
+    let n = numbered k c.requires.known c.requires.second in
+    stays_weaker (g.T.Twin.both c.args.twin.now) (g.T.Twin.both c.write_anew.new.twin) (g.T.Twin.leaves c.args.twin.now) (g.T.Twin.leaves c.write_anew.new.twin) (IsSource Second k.file.store.identity n.0 k.tables) (AreFiles (files_in k)) (λ x y source. source_in k Second n.0 x y n.1 source)
+    (c.write_anew.ensures.any_moment told k.file.store.identity n.0 k.tables (source_second k (g.T.Twin.both c.args.twin.now) (g.T.Twin.both c.args.twin.now) (c.requires.is_in told) c.requires.second n.0 n.1))
+
+pub write_anew-requires-clause-open : goal.write_anew-requires-clause-open
+write_anew-requires-clause-open g c = λ told.
+    let k = c.args.kept.now in
+    let n = numbered k c.requires.known c.requires.second in
+    open_second k (g.T.Twin.both c.args.twin.now) (g.T.Twin.both c.args.twin.now) (c.requires.is_in told) c.requires.second n.0 n.1
+
+pub returns-in-Ok-None-clause-any_moment : goal.returns-in-Ok-None-clause-any_moment
+returns-in-Ok-None-clause-any_moment g c = stays g (goal.at.returns-in-Ok-None-clause-any_moment g c).After-write_anew
+
+pub returns-in-Ok-Some-clause-any_moment : goal.returns-in-Ok-Some-clause-any_moment
+returns-in-Ok-Some-clause-any_moment g c = stays g (goal.at.returns-in-Ok-Some-clause-any_moment g c).After-write_anew
+
+pub returns-in-Err-clause-any_moment : goal.returns-in-Err-clause-any_moment
+returns-in-Err-clause-any_moment g c = stays g (goal.at.returns-in-Err-clause-any_moment g c).After-write_anew
+
+pub returns-in-Ok-None-clause-has : goal.returns-in-Ok-None-clause-has
+returns-in-Ok-None-clause-has g c = λ told.
+    has_anew c.args.kept.now (g.T.Twin.both c.args.twin.now) (g.T.Twin.both c.write_anew.new.twin) (c.requires.is_in told) c.requires.second (c.in-Ok-None.ensures.copied c.in-Ok-None.field-0-is told) (c.write_anew.ensures.source_stays told)
+
+pub returns-in-Ok-None-clause-source : goal.returns-in-Ok-None-clause-source
+returns-in-Ok-None-clause-source g c = λ told n is.
+    let k = c.args.kept.now in
+    source_anew k (g.T.Twin.both c.args.twin.now) (g.T.Twin.both c.write_anew.new.twin) (c.requires.is_in told) c.requires.second (c.in-Ok-None.ensures.copied c.in-Ok-None.field-0-is told) (c.write_anew.ensures.source_stays told) n is
+    (subst (λ o. EachStands k.file.store.identity k.tables (Some n) o (g.T.Twin.both c.write_anew.new.twin)) c.in-Ok-None.field-0-is (c.in-Ok-None.ensures.halves told k.file.store.identity n k.tables (source_second k (g.T.Twin.both c.args.twin.now) (g.T.Twin.both c.args.twin.now) (c.requires.is_in told) c.requires.second n is)))
+
+pub returns-in-Ok-None-clause-files : goal.returns-in-Ok-None-clause-files
+returns-in-Ok-None-clause-files g c = λ told.
+    let k = c.args.kept.now in
+    let n = numbered k c.requires.known c.requires.second in
+    source_in k First n.0 (g.T.Twin.both c.write_anew.new.twin).first.holds (g.T.Twin.both c.write_anew.new.twin).second.holds n.1
+    (source_anew k (g.T.Twin.both c.args.twin.now) (g.T.Twin.both c.write_anew.new.twin) (c.requires.is_in told) c.requires.second (c.in-Ok-None.ensures.copied c.in-Ok-None.field-0-is told) (c.write_anew.ensures.source_stays told) n.0 n.1
+    (subst (λ o. EachStands k.file.store.identity k.tables (Some n.0) o (g.T.Twin.both c.write_anew.new.twin)) c.in-Ok-None.field-0-is (c.in-Ok-None.ensures.halves told k.file.store.identity n.0 k.tables (source_second k (g.T.Twin.both c.args.twin.now) (g.T.Twin.both c.args.twin.now) (c.requires.is_in told) c.requires.second n.0 n.1))))
+
+pub returns-in-Ok-None-clause-fine : goal.returns-in-Ok-None-clause-fine
+returns-in-Ok-None-clause-fine g c =
+    let none : (half : Half) → c.in-Ok-None.field-0 ≡ Some half → ⊥ = λ half is. (let e = c.in-Ok-None.field-0-is in absurd cc) in
+    record { first_same = c.in-Ok-None.ensures.fine First (none First); second_same = c.in-Ok-None.ensures.fine Second (none Second); line_same = c.write_anew.ensures.line }
+
+pub returns-in-Ok-Some-clause-failed : goal.returns-in-Ok-Some-clause-failed
+returns-in-Ok-Some-clause-failed g c = λ is. rose_on c.in-Ok-Some.field-0-0 (g.T.Twin.both c.args.twin.now) (g.T.Twin.both c.write_anew.new.twin) (c.in-Ok-Some.ensures.lost c.in-Ok-Some.field-0-0 c.in-Ok-Some.field-0-is).1

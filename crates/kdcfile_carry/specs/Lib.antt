@@ -1,0 +1,13 @@
+pub mod Causes
+pub mod Doing
+pub mod Files
+pub mod FilesLaws
+pub mod Finding
+pub mod Keeping
+pub mod KeepingLaws
+pub mod Leaving
+pub mod LeavingLaws
+pub mod Losing
+pub mod Promise
+pub mod Ways
+pub mod WaysLaws

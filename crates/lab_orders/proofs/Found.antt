@@ -1,0 +1,115 @@
+-- From the start to an end.
+use Rattle.std.proofs.Common.{◌≡◌, ◌+◌, ◌≤◌, length, arith, ℕ, List, [], ◌∷◌, ◌++◌, refl, sym, ap, subst, ◌∙◌}
+use Rattle.std.proofs.lemmas.List.{append-nil, length-append}
+use Rattle.application_types.specs.Fitted.{FittedUnits, IsFit}
+use Rattle.application_types.specs.Generation.{Generated}
+use Rattle.kdcs_types.specs.Tables.{TableRows}
+use Rattle.laws_of_runs.specs.Applied.{applied}
+use Rattle.laws_of_states.specs.Keeping.{IsScriptOf}
+use Rattle.laws_of_states.specs.Suits.{Suits}
+use Rattle.abstract_monitor.specs.declared.command.Command.{Command}
+use Rattle.abstract_monitor.specs.Commands.{started}
+use Rattle.abstract_monitor.specs.Listing.{listing}
+use Rattle.abstract_monitor.specs.State.{Application, State}
+use Rattle.monitor_core.specs.CoreValue.{CoreValue}
+use Rattle.lab_orders.specs.declared.frame.Frame.{Frame}
+use Rattle.lab_orders.specs.declared.path.Path.{Path}
+use Rattle.lab_orders.specs.declared.reach.Place.{Place}
+use Rattle.lab_orders.specs.declared.reach.Place.TheVariants.{Inside, Ended}
+use Rattle.lab_orders.specs.declared.search.Found.{Found}
+use Rattle.lab_orders.specs.declared.search.Seen.{Seen}
+use Rattle.lab_orders.specs.declared.search.Seen.TheVariants as seen
+use Rattle.lab_orders.specs.Drawing.{CameToCommands, Drew}
+use Rattle.lab_orders.specs.Finding.{CanStart, Descended, IsAhead, IsFound, SawIt}
+use Rattle.lab_orders.specs.Orders.{HasOutcome}
+use Rattle.lab_orders.specs.Searching.{CanGo, Followed, GoesOn, IsWay, Reached, quest_of, spot_of, state_at, turns_in}
+use Rattle.lab_orders.specs.Walking.{Begun}
+use Rattle.lab_orders.specs.Walks.{IsEnd, IsWalk, stand}
+use Rattle.lab_orders.proofs.Drawing.{came_start, ended_outcome, ended_walk}
+use Rattle.lab_orders.proofs.Reaching.{goes_start}
+use Rattle.lab_orders.proofs.Searching.{ahead_more, way_more, way_walks}
+use Rattle.lab_orders.proofs.Steps.{moved}
+
+module _ (app : Application) (t : TableRows) (cs : List Command) (c : CoreValue) (before : Path) (begun : Begun app t c before) where
+  -- a way from the start
+  pub reached_from : (frames : List Frame) (d : CoreValue) (after : Path) (place : Place) → Followed c before cs frames d after place → IsWay app cs (started app t) frames → Reached (quest_of app cs t frames) d after.sent place
+  reached_from frames d after place followed way =
+      followed.reached (quest_of app cs t frames) (sym begun.application) way
+      (moved (λ a u. GoesOn (quest_of app cs t frames) a u cs before.sent frames) begun.application begun.state
+      (subst (λ (b : List ℕ). GoesOn (quest_of app cs t frames) app (started app t) cs b frames) (sym begun.sent) (goes_start (quest_of app cs t frames))))
+
+  -- a walk that was drawn, and what came out
+  pub drawn_found : (d : CoreValue) (after : Path) (found : Found) → found.turns ≡ after.turns → found.sent ≡ after.sent → found.tables ≡ listing d.state.tables → Drew c before cs d after → IsFound app t cs found
+  drawn_found d after found turns sent tables drew =
+      let came : CameToCommands (record { app = app; commands = cs; start = started app t }) d.application d.state [] after.turns after.sent = drew.came (record { app = app; commands = cs; start = started app t }) [] (sym begun.application) start in
+      record {
+        walk = subst (IsWalk app cs (started app t)) (sym turns) (ended_walk _ d.application d.state after.turns after.sent came);
+        outcome = subst (λ (x : List ℕ × List ℕ). HasOutcome app cs (started app t) x.0 x.1 found.tables) (λ i. (sym turns i, sym sent i)) (ended_outcome _ d.application d.state after.turns after.sent came found.tables tables);
+      }
+    where
+      start : CameToCommands (record { app = app; commands = cs; start = started app t }) c.application c.state (cs ++ []) before.turns before.sent
+      start =
+          subst (λ (l : List Command). CameToCommands (record { app = app; commands = cs; start = started app t }) c.application c.state l before.turns before.sent) (sym (append-nil cs))
+          (moved (λ a u. CameToCommands (record { app = app; commands = cs; start = started app t }) a u cs before.turns before.sent) begun.application begun.state
+          (subst (λ (x : List ℕ × List ℕ). CameToCommands (record { app = app; commands = cs; start = started app t }) app (started app t) cs x.0 x.1) (λ i. (sym begun.turns i, sym begun.sent i)) (came_start (record { app = app; commands = cs; start = started app t }))))
+
+-- ---- again
+
+state_there : (place : Place) (s : State) → state_at (spot_of place s) ≡ s
+state_there (Inside left room) s = refl
+state_there Ended s = refl
+
+module _ (app : Application) (t : TableRows) (cs : List Command) (g : Generated) (units : FittedUnits) (same : app ≡ applied g units) where
+  pub again_start : CanGo app t cs → IsFit g units → CanStart (applied g units) t cs g units
+  again_start go fit = record {
+    fit = fit;
+    application = refl;
+    suits = subst (λ (a : Application). Suits a.generation t) same go.suits;
+    names = subst (λ (a : Application). IsScriptOf a cs) same go.names;
+    tries = go.tries;
+  }
+
+  pub again_way : (frames : List Frame) → IsWay app cs (started app t) frames → IsWay (applied g units) cs (started (applied g units) t) frames
+  again_way frames way = subst (λ (a : Application). IsWay a cs (started a t) frames) same way
+
+  pub again_state : (frames : List Frame) (d : CoreValue) (sent : List ℕ) (place : Place) → Reached (quest_of (applied g units) cs t frames) d sent place → state_at (stand app cs (started app t) (turns_in frames)) ≡ d.state
+  again_state frames d sent place reached = ap (λ (a : Application). state_at (stand a cs (started a t) (turns_in frames))) same ∙ ap state_at reached.spot ∙ state_there place d.state
+
+-- ---- an end
+
+module _ (app : Application) (t : TableRows) (cs : List Command) (frames : List Frame) (d : CoreValue) (sent : List ℕ) (reached : Reached (quest_of app cs t frames) d sent Ended) where
+  pub saw_end : (found : Found) → found.turns ≡ turns_in frames → found.sent ≡ sent → found.tables ≡ listing d.state.tables → SawIt app cs t frames (seen.Ended found)
+  saw_end found turns said tables = (
+    subst IsEnd (sym reached.spot) tt,
+    turns,
+    record { sent_is = said ∙ reached.said.0; tables_are = tables ∙ ap (λ (u : State). listing u.tables) reached.said.1 },
+  )
+
+-- ---- down to an end
+
+module _ (app : Application) (t : TableRows) (cs : List Command) (old frames : List Frame) (way : IsWay app cs (started app t) frames) (kept : (w : List ℕ) → IsWalk app cs (started app t) w → IsAhead old w → IsAhead frames w) where
+  pub descended : (found : Found) → SawIt app cs t frames (seen.Ended found) → Descended app t cs old frames found
+  descended found saw = record {
+    way = way;
+    end = saw.0;
+    turns = saw.1;
+    found_is = record {
+      walk = subst (IsWalk app cs (started app t)) (sym saw.1) (way_walks app cs (started app t) frames way saw.0);
+      outcome = subst (λ (o : List ℕ). HasOutcome app cs (started app t) o found.sent found.tables) (sym saw.1) saw.2;
+    };
+    kept = kept;
+  }
+
+  -- one frame deeper
+  module _ (frame : Frame) (saw : SawIt app cs t frames (seen.Open frame)) (deeper : List Frame) (are : deeper ≡ frames ++ frame ∷ []) where
+    pub deeper_way : IsWay app cs (started app t) deeper
+    deeper_way = subst (IsWay app cs (started app t)) (sym are) (way_more app cs (started app t) frames frame way saw.0)
+
+    pub deeper_kept : (w : List ℕ) → IsWalk app cs (started app t) w → IsAhead old w → IsAhead deeper w
+    deeper_kept w walk h = subst (λ (l : List Frame). IsAhead l w) (sym are) (ahead_more app cs (started app t) frames frame saw.0 saw.1 w walk (kept w walk h))
+
+pub saw_next : (app later : Application) → later ≡ app → (t : TableRows) (cs : List Command) (slice frames : List Frame) → slice ≡ frames → (it : Seen) → SawIt later cs t slice it → SawIt app cs t frames it
+saw_next app later same t cs slice frames are it saw = subst (λ (l : List Frame). SawIt app cs t l it) are (subst (λ (a : Application). SawIt a cs t slice it) same saw)
+
+pub longer : (frames : List Frame) (frame : Frame) (deeper : List Frame) → deeper ≡ frames ++ frame ∷ [] → (n : ℕ) → n ≤ length frames → n + 1 ≤ length deeper
+longer frames frame deeper are n long = let more : length deeper ≡ length frames + 1 = ap length are ∙ length-append frames (frame ∷ []) in omega (arith, more, long)

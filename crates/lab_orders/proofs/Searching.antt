@@ -1,0 +1,334 @@
+-- What can be next, and the walks one after another.
+use Rattle.std.proofs.Common.{◌≡◌, ℕ, zero, suc, ◌+◌, ◌-◌, ◌<◌, ◌≤◌, List, [], ◌∷◌, ◌++◌, inl, inr, refl, sym, ap, subst, ◌∙◌, append_assoc, arith, get_or, drop, length}
+use Rattle.std.specs.Prelude.{◌⊎◌, Bool, true, false, not, ◌||◌, ◌==◌, IsTrue, All, cond}
+use Rattle.std.proofs.lemmas.Bool.{eq-eqb, eqb-true, true≢false}
+use Rattle.std.proofs.lemmas.List.{drop_all, drop_more, length-append}
+use Rattle.std.proofs.lemmas.List.Elements.{All-append}
+use Rattle.application_types.specs.Statements.{IsWithin}
+use Rattle.abstract_monitor.specs.declared.command.Command.{Command}
+use Rattle.abstract_monitor.specs.State.{Application, State}
+use Rattle.laws_of_states.specs.Keeping.{HasFacts}
+use Rattle.monitor_core.specs.CoreValue.{CoreValue}
+use Rattle.lab_orders.specs.declared.frame.Frame.{Frame}
+use Rattle.lab_orders.specs.Finding.{AreTried, IsAhead, IsLeft, IsSame, others}
+use Rattle.lab_orders.specs.Orders.{IsAtRest, IsTurn, has_effect, is_in}
+use Rattle.lab_orders.specs.Searching.{IsFrame, IsWay, turn_in, turns_in}
+use Rattle.lab_orders.specs.Trying.{TriedEffect}
+use Rattle.lab_orders.specs.Walks.{AtEnd, CanBe, InRun, IsEnd, IsWalk, Spot, idle_count, idle_from, stand}
+use Rattle.lab_orders.proofs.Lists.{each_more, head_of, not_none, tail_of}
+
+-- ---- lists of turns
+
+pub in_front : (t : ℕ) (xs ys : List ℕ) → IsTrue (is_in t xs) → IsTrue (is_in t (xs ++ ys))
+in_front t [] ys h = absurd (true≢false (sym h))
+in_front t (x ∷ xs) ys h = by (x == t) (in_front t xs ys) h
+  where
+    by : (b : Bool) → (IsTrue (is_in t xs) → IsTrue (is_in t (xs ++ ys))) → IsTrue (b || is_in t xs) → IsTrue (b || is_in t (xs ++ ys))
+    by true rest h = refl
+    by false rest h = rest h
+
+pub in_last : (t : ℕ) (xs : List ℕ) → IsTrue (is_in t (xs ++ t ∷ []))
+in_last t [] = subst (λ b. IsTrue (b || false)) (sym (eq-eqb t t refl)) refl
+in_last t (x ∷ xs) = by (x == t) (in_last t xs)
+  where
+    by : (b : Bool) → IsTrue (is_in t (xs ++ t ∷ [])) → IsTrue (b || is_in t (xs ++ t ∷ []))
+    by true rest = refl
+    by false rest = rest
+
+all_one : (P : ℕ → Type 0) (t : ℕ) → P t → All P (t ∷ [])
+all_one P t h zero d less = h
+all_one P t h (suc k) d less = absurd (omega (arith, less))
+
+-- it is the first or a later one
+pub first_or_later : (t : ℕ) (xs : List ℕ) (at : ℕ) → at < length xs → IsTrue (is_in t (drop at xs)) → (t ≡ get_or xs at 0) ⊎ IsTrue (is_in t (drop (at + 1) xs))
+first_or_later t xs at lt h = by (get_or xs at 0 == t) refl (subst (λ (l : List ℕ). IsTrue (is_in t l)) (drop_more xs at 0 lt) h)
+  where
+    by : (b : Bool) → (get_or xs at 0 == t) ≡ b → IsTrue (b || is_in t (drop (at + 1) xs)) → (t ≡ get_or xs at 0) ⊎ IsTrue (is_in t (drop (at + 1) xs))
+    by true e h = inl (sym (eqb-true (get_or xs at 0) t e))
+    by false e h = inr h
+
+-- ---- each task is tried
+
+-- the tasks up to this one were tried
+pub record Trying (c d : CoreValue) (steps at : ℕ) (choices : List ℕ) (idle : ℕ) : Type 0 where
+  pub same : IsSame c d
+  pub steps_are : d.steps ≤ steps + at
+  pub few : idle ≤ at
+  pub idle_is : idle + idle_from c.application c.state (at + 1) (c.application.generation.limits.tasks - at) ≡ idle_count c.application c.state
+  pub can : All (IsTurn c.application c.state) choices
+  pub whole : (t : ℕ) → t ≤ at → IsTurn c.application c.state t → IsTrue (is_in t choices)
+
+pub trying_start : (c : CoreValue) (steps : ℕ) (choices : List ℕ) → choices ≡ [] → HasFacts c.application c.state → c.steps ≤ steps → Trying c c steps 0 choices 0
+trying_start c steps choices none facts few = record {
+  same = record { application = refl; state = refl; facts = facts };
+  steps_are = omega (arith, few);
+  few = omega arith;
+  idle_is =
+      let all : c.application.generation.limits.tasks - 0 ≡ c.application.generation.limits.tasks = omega arith in
+      let front : idle_from c.application c.state 1 (c.application.generation.limits.tasks - 0) ≡ idle_count c.application c.state = ap (idle_from c.application c.state 1) all in
+      omega (arith, front);
+  can = subst (All (IsTurn c.application c.state)) (sym none) (λ k d less. absurd (omega (arith, less)));
+  whole = λ t low turn. let within : 1 ≤ t = turn.within.0 in absurd (omega (arith, low, within));
+}
+
+idle_one : (app : Application) (s : State) (task n : ℕ) → has_effect app s task ≡ false → idle_from app s task (suc n) ≡ 1 + idle_from app s (task + 1) n
+idle_one app s task n e = ap (λ b. cond b 0 1 + idle_from app s (task + 1) n) e
+
+idle_none : (app : Application) (s : State) (task n : ℕ) → has_effect app s task ≡ true → idle_from app s task (suc n) ≡ idle_from app s (task + 1) n
+idle_none app s task n e = let one : idle_from app s task (suc n) ≡ 0 + idle_from app s (task + 1) n = ap (λ b. cond b 0 1 + idle_from app s (task + 1) n) e in omega (arith, one)
+
+module _ (c d : CoreValue) (steps at : ℕ) (choices : List ℕ) (idle : ℕ) (trying : Trying c d steps at choices idle) (lt : at < c.application.generation.limits.tasks) where
+  effect_here : has_effect d.application d.state (at + 1) ≡ has_effect c.application c.state (at + 1)
+  effect_here = λ i. has_effect (trying.same.application i) (trying.same.state i) (at + 1)
+
+  one_less : c.application.generation.limits.tasks - at ≡ suc (c.application.generation.limits.tasks - (at + 1))
+  one_less = omega (arith, lt)
+
+  pub trying_within : IsWithin 1 d.application.generation.limits.tasks (at + 1)
+  trying_within = subst (λ (a : Application). IsWithin 1 a.generation.limits.tasks (at + 1)) (sym trying.same.application) (omega arith, omega (arith, lt))
+
+  -- it has none
+  pub trying_idle : (next : CoreValue) (moved : Bool) → TriedEffect d (at + 1) next moved → moved ≡ false → next.steps ≡ d.steps + 1 → Trying c next steps (at + 1) choices (idle + 1)
+  trying_idle next moved tried none_is one = record {
+    same = record { application = tried.application ∙ trying.same.application; state = tried.stays none_is ∙ trying.same.state; facts = tried.facts };
+    steps_are = omega (arith, one, trying.steps_are);
+    few = omega (arith, trying.few);
+    idle_is =
+        let none : has_effect c.application c.state (at + 1) ≡ false = sym effect_here ∙ tried.effect ∙ none_is in
+        let front : idle_from c.application c.state (at + 1) (c.application.generation.limits.tasks - at) ≡ 1 + idle_from c.application c.state (at + 1 + 1) (c.application.generation.limits.tasks - (at + 1)) =
+        ap (idle_from c.application c.state (at + 1)) one_less ∙ idle_one c.application c.state (at + 1) (c.application.generation.limits.tasks - (at + 1)) none in
+        omega (arith, front, trying.idle_is);
+    can = trying.can;
+    whole = whole;
+  }
+    where
+      whole : (t : ℕ) → t ≤ at + 1 → IsTurn c.application c.state t → IsTrue (is_in t choices)
+      whole t low turn = by (t == at + 1) refl
+        where
+          by : (b : Bool) → (t == at + 1) ≡ b → IsTrue (is_in t choices)
+          by true e = absurd (true≢false (sym turn.effect ∙ ap (has_effect c.application c.state) (eqb-true t (at + 1) e) ∙ sym effect_here ∙ tried.effect ∙ none_is))
+          by false e = trying.whole t (grind (arith, low, e)) turn
+
+  -- it has one
+  pub trying_effect : (later next : CoreValue) (moved : Bool) → TriedEffect d (at + 1) later moved → moved ≡ true → IsSame c next → next.steps ≤ steps → Trying c next steps (at + 1) (choices ++ (at + 1) ∷ []) idle
+  trying_effect later next moved tried some_is same few = record {
+    same = same;
+    steps_are = omega (arith, few);
+    few = omega (arith, trying.few);
+    idle_is =
+        let front : idle_from c.application c.state (at + 1) (c.application.generation.limits.tasks - at) ≡ idle_from c.application c.state (at + 1 + 1) (c.application.generation.limits.tasks - (at + 1)) =
+        ap (idle_from c.application c.state (at + 1)) one_less ∙ idle_none c.application c.state (at + 1) (c.application.generation.limits.tasks - (at + 1)) (sym effect_here ∙ tried.effect ∙ some_is) in
+        omega (arith, front, trying.idle_is);
+    can = can;
+    whole = whole;
+  }
+    where
+      turn : IsTurn c.application c.state (at + 1)
+      turn = record { within = (omega arith, omega (arith, lt)); effect = sym effect_here ∙ tried.effect ∙ some_is }
+
+      can : All (IsTurn c.application c.state) (choices ++ (at + 1) ∷ [])
+      can = All-append (IsTurn c.application c.state) choices ((at + 1) ∷ []) trying.can (all_one (IsTurn c.application c.state) (at + 1) turn)
+
+      whole : (t : ℕ) → t ≤ at + 1 → IsTurn c.application c.state t → IsTrue (is_in t (choices ++ (at + 1) ∷ []))
+      whole t low can_be = by (t == at + 1) refl
+        where
+          by : (b : Bool) → (t == at + 1) ≡ b → IsTrue (is_in t (choices ++ (at + 1) ∷ []))
+          by true e = subst (λ u. IsTrue (is_in u (choices ++ (at + 1) ∷ []))) (sym (eqb-true t (at + 1) e)) (in_last (at + 1) choices)
+          by false e = in_front t choices ((at + 1) ∷ []) (trying.whole t (grind (arith, low, e)) can_be)
+
+pub trying_over : (c d : CoreValue) (steps at : ℕ) (choices : List ℕ) (idle : ℕ) → Trying c d steps at choices idle → c.application.generation.limits.tasks ≤ at → AreTried c.application c.state choices idle
+trying_over c d steps at choices idle trying over = record {
+  idle_is =
+      let none : c.application.generation.limits.tasks - at ≡ 0 = omega (arith, over) in
+      let front : idle_from c.application c.state (at + 1) (c.application.generation.limits.tasks - at) ≡ 0 = ap (idle_from c.application c.state (at + 1)) none in
+      omega (arith, front, trying.idle_is);
+  can = trying.can;
+  whole = λ t turn. let within : t ≤ c.application.generation.limits.tasks = turn.within.1 in trying.whole t (omega (arith, within, over)) turn;
+}
+
+-- ---- what can be next
+
+module _ (app : Application) (s : State) (choices : List ℕ) (idle left room : ℕ) (tried : AreTried app s choices idle) where
+  turn_can : (t : ℕ) → IsTurn app s t → CanBe app (InRun left room s) t
+  turn_can zero turn = let within : 1 ≤ 0 = turn.within.0 in absurd (omega (arith, within))
+  turn_can (suc t) turn = turn
+
+  turns_can : All (CanBe app (InRun left room s)) choices
+  turns_can k d less = turn_can (get_or choices k d) (tried.can k d less)
+
+  pub none_rests : choices ≡ [] → IsAtRest app s
+  none_rests none t turn = true≢false (sym (subst (λ (l : List ℕ). IsTrue (is_in t l)) none (tried.whole t turn)))
+
+  module _ (f : Frame) (idle_is : f.idle ≡ idle) (at : f.at ≡ 0) where
+    -- 0 is one of it
+    pub opens_zero : f.choices ≡ choices ++ 0 ∷ [] → (choices ≡ []) ⊎ (left + 1 ≤ room + idle) → IsFrame app (InRun left room s) f
+    opens_zero are why = record {
+      idle = idle_is ∙ tried.idle_is;
+      can = subst (All (CanBe app (InRun left room s))) (sym are) can;
+      whole = λ t can. subst (λ (l : List ℕ). IsTrue (is_in t l)) (sym are) (whole t can);
+      at = let some : length f.choices ≡ length choices + 1 = ap length are ∙ length-append choices (0 ∷ []) in omega (arith, at, some);
+    }
+      where
+        zero_can : CanBe app (InRun left room s) 0
+        zero_can = elim why [ inl none ↦ inl (none_rests none) | inr spent ↦ inr (omega (arith, spent, tried.idle_is)) ]
+
+        can : All (CanBe app (InRun left room s)) (choices ++ 0 ∷ [])
+        can = All-append (CanBe app (InRun left room s)) choices (0 ∷ []) turns_can (all_one (CanBe app (InRun left room s)) 0 zero_can)
+
+        whole : (t : ℕ) → CanBe app (InRun left room s) t → IsTrue (is_in t (choices ++ 0 ∷ []))
+        whole zero can = in_last 0 choices
+        whole (suc t) can = in_front (suc t) choices (0 ∷ []) (tried.whole (suc t) can)
+
+    -- 0 is none of it
+    pub opens_turns : f.choices ≡ choices → (choices ≡ [] → ⊥) → room + idle ≤ left → IsFrame app (InRun left room s) f
+    opens_turns are some more = record {
+      idle = idle_is ∙ tried.idle_is;
+      can = subst (All (CanBe app (InRun left room s))) (sym are) turns_can;
+      whole = λ t can. subst (λ (l : List ℕ). IsTrue (is_in t l)) (sym are) (whole t can);
+      at = subst (λ n. n < length f.choices) (sym at) (subst (λ (l : List ℕ). 0 < length l) (sym are) (filled choices some));
+    }
+      where
+        filled : (xs : List ℕ) → (xs ≡ [] → ⊥) → 0 < length xs
+        filled [] not = absurd (not refl)
+        filled (x ∷ xs) not = omega arith
+
+        whole : (t : ℕ) → CanBe app (InRun left room s) t → IsTrue (is_in t choices)
+        whole zero (inl rest) = absurd (rest_not rest)
+          where
+            rest_not : IsAtRest app s → ⊥
+            rest_not rest = let first = tried.can 0 0 (filled choices some) in rest (get_or choices 0 0) first
+        whole zero (inr spent) = absurd (omega (arith, spent, more, tried.idle_is))
+        whole (suc t) can = tried.whole (suc t) can
+
+-- ---- one frame more
+
+module _ (app : Application) (cs : List Command) (s : State) where
+  pub way_none : (frames : List Frame) → frames ≡ [] → IsWay app cs s frames
+  way_none frames none before f behind e = absurd (not_none before f behind (sym none ∙ e))
+
+  pub way_more : (frames : List Frame) (last : Frame) → IsWay app cs s frames → IsFrame app (stand app cs s (turns_in frames)) last → IsWay app cs s (frames ++ last ∷ [])
+  way_more frames last way here = each_more (λ (before : List Frame) (f : Frame). IsFrame app (stand app cs s (turns_in before)) f) frames last way here
+
+  pub way_less : (frames : List Frame) (last : Frame) → IsWay app cs s (frames ++ last ∷ []) → IsWay app cs s frames
+  way_less frames last way before f behind e = way before f (behind ++ last ∷ []) (ap (λ (l : List Frame). l ++ last ∷ []) e ∙ append_assoc before (f ∷ behind) (last ∷ []))
+
+  pub way_last : (frames : List Frame) (last : Frame) → IsWay app cs s (frames ++ last ∷ []) → IsFrame app (stand app cs s (turns_in frames)) last
+  way_last frames last way = way frames last [] refl
+
+  -- the whole turns of a way that leads to an end are a walk
+  frames_split : (frames : List Frame) (before : List ℕ) (t : ℕ) (behind : List ℕ) → turns_in frames ≡ before ++ t ∷ behind
+      → (b : List Frame) × (f : Frame) × (l : List Frame) × (frames ≡ b ++ f ∷ l) × (turns_in b ≡ before) × (turn_in f ≡ t)
+  unfolding head_of tail_of
+  frames_split [] before t behind e = absurd (not_none before t behind e)
+  frames_split (f ∷ frames) [] t behind e = ([], f, frames, refl, refl, ap (head_of 0) e)
+  frames_split (f ∷ frames) (x ∷ before) t behind e =
+      let rest = frames_split frames before t behind (ap tail_of e) in
+      (f ∷ rest.0, rest.1, rest.2, ap (λ (l : List Frame). f ∷ l) rest.3, (λ i. ap (head_of 0) e i ∷ rest.4 i), rest.5)
+
+  taken_can : (p : Spot) (f : Frame) → IsFrame app p f → CanBe app p (turn_in f)
+  taken_can (AtEnd u) f h = absurd h
+  taken_can (InRun left room u) f h = h.can f.at 0 h.at
+
+  pub way_walks : (frames : List Frame) → IsWay app cs s frames → IsEnd (stand app cs s (turns_in frames)) → IsWalk app cs s (turns_in frames)
+  way_walks frames way end = record {
+    can = λ before t behind e.
+        let it = frames_split frames before t behind e in
+        subst (λ (x : List ℕ × ℕ). CanBe app (stand app cs s x.0) x.1) (λ i. (it.4 i, it.5 i)) (taken_can (stand app cs s (turns_in it.0)) it.1 (way it.0 it.1 it.2 it.3));
+    end = end;
+  }
+
+  -- ---- what is ahead
+
+  -- a walk that begins with these turns goes on with what can be next
+  goes_on : (p : Spot) (f : Frame) → IsFrame app p f → (t : ℕ) → CanBe app p t → IsTrue (is_in t f.choices)
+  goes_on (AtEnd u) f h t can = absurd h
+  goes_on (InRun left room u) f h t can = h.whole t can
+
+  no_stop : (p : Spot) (f : Frame) → IsFrame app p f → IsEnd p → ⊥
+  no_stop (AtEnd u) f h end = h
+  no_stop (InRun left room u) f h end = end
+
+  -- the turns of these frames, and then those of it
+  ahead_by : (front : List ℕ) (frames : List Frame) (last : Frame) (rest : List ℕ)
+      → ((t : ℕ) (behind : List ℕ) → rest ≡ turns_in frames ++ t ∷ behind → (t ≡ turn_in last) ⊎ IsTrue (is_in t (others last)))
+      → (rest ≡ turns_in frames → ⊥)
+      → IsAhead frames rest → IsAhead (frames ++ last ∷ []) rest
+  ahead_by front [] last [] next some h = absurd (some refl)
+  ahead_by front [] last (t ∷ rest) next some h = elim (next t rest refl) [ inl same ↦ inl (same, tt) | inr other ↦ inr other ]
+  ahead_by front (f ∷ frames) last [] next some h = absurd h
+  ahead_by front (f ∷ frames) last (t ∷ rest) next some (inr other) = inr other
+  ahead_by front (f ∷ frames) last (t ∷ rest) next some (inl both) =
+      inl (both.0, ahead_by (front ++ t ∷ []) frames last rest (λ u behind e. next u behind (λ i. both.0 i ∷ e i)) (λ e. some (λ i. both.0 i ∷ e i)) both.1)
+
+  pub ahead_more : (frames : List Frame) (last : Frame) → IsFrame app (stand app cs s (turns_in frames)) last → last.at ≡ 0 → (w : List ℕ) → IsWalk app cs s w → IsAhead frames w → IsAhead (frames ++ last ∷ []) w
+  ahead_more frames last here first w walk ahead = ahead_by [] frames last w next some ahead
+    where
+      p : Spot
+      p = stand app cs s (turns_in frames)
+
+      at_ok : (q : Spot) → IsFrame app q last → last.at < length last.choices
+      at_ok (AtEnd u) h = absurd h
+      at_ok (InRun left room u) h = h.at
+
+      next : (t : ℕ) (behind : List ℕ) → w ≡ turns_in frames ++ t ∷ behind → (t ≡ turn_in last) ⊎ IsTrue (is_in t (others last))
+      next t behind e =
+          first_or_later t last.choices last.at (at_ok p here)
+          (subst (λ n. IsTrue (is_in t (drop n last.choices))) (sym first) (goes_on p last here t (walk.can (turns_in frames) t behind e)))
+
+      some : w ≡ turns_in frames → ⊥
+      some e = no_stop p last here (subst (λ (l : List ℕ). IsEnd (stand app cs s l)) e walk.end)
+
+-- at an end
+pub ahead_end : (app : Application) (cs : List Command) (s : State) (frames : List Frame) → IsEnd (stand app cs s (turns_in frames)) → (w : List ℕ) → IsWalk app cs s w → IsAhead frames w → (w ≡ turns_in frames) ⊎ IsLeft frames w
+ahead_end app cs s frames end w walk ahead = by frames w (λ t behind e. closed (stand app cs s (turns_in frames)) end t (walk.can (turns_in frames) t behind e)) ahead
+  where
+    closed : (p : Spot) → IsEnd p → (t : ℕ) → CanBe app p t → ⊥
+    closed (AtEnd u) e t can = can
+    closed (InRun left room u) e t can = e
+
+    by : (frames : List Frame) (w : List ℕ) → ((t : ℕ) (behind : List ℕ) → w ≡ turns_in frames ++ t ∷ behind → ⊥) → IsAhead frames w → (w ≡ turns_in frames) ⊎ IsLeft frames w
+    by [] [] none h = inl refl
+    by [] (t ∷ w) none h = absurd (none t w refl)
+    by (f ∷ frames) [] none h = absurd h
+    by (f ∷ frames) (t ∷ w) none (inr other) = inr (inr other)
+    by (f ∷ frames) (t ∷ w) none (inl both) =
+        elim (by frames w (λ u behind e. none u behind (λ i. both.0 i ∷ e i)) both.1) [ inl same ↦ inl (λ i. both.0 i ∷ same i) | inr left ↦ inr (inl (both.0, left)) ]
+
+-- ---- the next choice
+
+-- the frame with its next choice
+abbrev pub NextFrame : Frame → Frame → Type 0
+NextFrame old new = (new.choices ≡ old.choices) × (new.at ≡ old.at + 1) × (new.idle ≡ old.idle)
+
+pub left_next : (frames : List Frame) (old new : Frame) → NextFrame old new → old.at + 1 < length old.choices → (w : List ℕ) → IsLeft (frames ++ old ∷ []) w → IsAhead (frames ++ new ∷ []) w
+left_next [] old new is lt [] h = absurd h
+left_next [] old new is lt (t ∷ w) (inl both) = absurd both.1
+left_next [] old new is lt (t ∷ w) (inr other) =
+    elim (first_or_later t old.choices (old.at + 1) lt other) [
+      | inl same ↦ inl (same ∙ (λ i. get_or (sym is.0 i) (sym is.1 i) 0), tt)
+      | inr later ↦ inr (subst (λ (l : List ℕ). IsTrue (is_in t l)) (λ i. drop (sym is.1 i + 1) (sym is.0 i)) later)
+    ]
+left_next (f ∷ frames) old new is lt [] h = absurd h
+left_next (f ∷ frames) old new is lt (t ∷ w) (inl both) = inl (both.0, left_next frames old new is lt w both.1)
+left_next (f ∷ frames) old new is lt (t ∷ w) (inr other) = inr other
+
+-- the last frame has no other choice
+pub left_less : (frames : List Frame) (last : Frame) → length last.choices ≤ last.at + 1 → (w : List ℕ) → IsLeft (frames ++ last ∷ []) w → IsLeft frames w
+left_less [] last over [] h = absurd h
+left_less [] last over (t ∷ w) (inl both) = absurd both.1
+left_less [] last over (t ∷ w) (inr other) = absurd (true≢false (sym (subst (λ (l : List ℕ). IsTrue (is_in t l)) (drop_all (last.at + 1) last.choices over) other)))
+left_less (f ∷ frames) last over [] h = absurd h
+left_less (f ∷ frames) last over (t ∷ w) (inl both) = inl (both.0, left_less frames last over w both.1)
+left_less (f ∷ frames) last over (t ∷ w) (inr other) = inr other
+
+next_frame : (app : Application) (p : Spot) (old new : Frame) → NextFrame old new → old.at + 1 < length old.choices → IsFrame app p old → IsFrame app p new
+next_frame app (AtEnd u) old new is lt h = absurd h
+next_frame app (InRun left room u) old new is lt h = record {
+  idle = is.2 ∙ h.idle;
+  can = subst (All (CanBe app (InRun left room u))) (sym is.0) h.can;
+  whole = λ t can. subst (λ (l : List ℕ). IsTrue (is_in t l)) (sym is.0) (h.whole t can);
+  at = subst (λ (l : List ℕ). new.at < length l) (sym is.0) (omega (arith, is.1, lt));
+}
+
+pub way_next : (app : Application) (cs : List Command) (s : State) (frames : List Frame) (old new : Frame) → NextFrame old new → old.at + 1 < length old.choices → IsWay app cs s (frames ++ old ∷ []) → IsWay app cs s (frames ++ new ∷ [])
+way_next app cs s frames old new is lt way = way_more app cs s frames new (way_less app cs s frames old way) (next_frame app (stand app cs s (turns_in frames)) old new is lt (way_last app cs s frames old way))

@@ -1,0 +1,63 @@
+use Rattle.std.proofs.Common.{◌≡◌, sym, ap, subst, ◌∙◌}
+use Rattle.abstract_monitor.specs.Commands.{started}
+use Rattle.abstract_monitor.specs.State.{Application}
+use Rattle.laws_of_runs.specs.Applied.{applied}
+use Rattle.lab_orders.specs.declared.reach.Place.{Place}
+use Rattle.lab_orders.specs.Searching.{CanCount, CanGo, IsFrame, IsWay, Reached, quest_of, spot_of, turns_in}
+use Rattle.lab_orders.specs.Walks.{InRun, Spot, stand}
+use Rattle.lab_orders.proofs.Found.{saw_end}
+use Rattle.lab_orders.proofs.Reaching.{way_taken}
+use Rattle.lab_orders.proofs.search.see.Goals as goal
+
+pub turns_of-requires : goal.turns_of-requires
+turns_of-requires c k d less =
+    let app = applied c.args.generation c.args.units in
+    (way_taken app c.args.commands.now (started app c.args.tables.now) c.args.frames.now c.requires.way k d less).at
+
+pub open-requires-clause-here : goal.open-requires-clause-here
+open-requires-clause-here c =
+    let app = applied c.args.generation c.args.units in
+    subst (λ (a : Application). stand a c.args.commands.now (started a c.args.tables.now) (turns_in c.args.frames.now) ≡ InRun c.in-Inside.left c.in-Inside.room c.in_ok-core.core.state) (sym c.in_ok-core.ensures.application)
+    (c.in_ok-core.ensures.reached.spot ∙ ap (λ (p : Place). spot_of p c.in_ok-core.core.state) c.in-Inside.is)
+
+pub open-requires-clause-room : goal.open-requires-clause-room
+open-requires-clause-room c = subst CanCount c.in-Inside.is c.in_ok-core.ensures.few
+
+pub open-requires-clause-go : goal.open-requires-clause-go
+open-requires-clause-go c =
+    subst (λ (a : Application). CanGo a c.args.tables.now c.args.commands.now) (sym c.in_ok-core.ensures.application) (record { suits = c.requires.start.suits; names = c.requires.start.names; tries = c.requires.start.tries })
+
+pub open-requires-clause-way : goal.open-requires-clause-way
+open-requires-clause-way c = subst (λ (a : Application). IsWay a c.args.commands.now (started a c.args.tables.now) c.args.frames.now) (sym c.in_ok-core.ensures.application) c.requires.way
+
+pub returns-in_ok-found-in-Ended-clause-saw : goal.returns-in_ok-found-in-Ended-clause-saw
+returns-in_ok-found-in-Ended-clause-saw c =
+    let app = applied c.args.generation c.args.units in
+    saw_end app c.args.tables.now c.args.commands.now c.args.frames.now c.in_ok-core.core c.in_ok-core.path.sent
+    (subst (Reached (quest_of app c.args.commands.now c.args.tables.now c.args.frames.now) c.in_ok-core.core c.in_ok-core.path.sent) c.in-Ended.is c.in_ok-core.ensures.reached)
+    c.in_ok-found-in-Ended.found (c.in_ok-found-in-Ended.ensures.turns ∙ c.in_ok-path-in-Ended.ensures) c.in_ok-found-in-Ended.ensures.sent c.in_ok-found-in-Ended.ensures.tables
+
+pub returns-in_ok-found-in-Ended-clause-again : goal.returns-in_ok-found-in-Ended-clause-again
+returns-in_ok-found-in-Ended-clause-again c = record {
+  fit = c.into_application-generation.ensures.fit;
+  application = sym c.into_application-generation.ensures.application ∙ c.in_ok-core.ensures.application;
+  suits = c.requires.start.suits;
+  names = c.requires.start.names;
+  tries = c.requires.start.tries;
+}
+
+pub returns-in_ok-core-in-Inside-clause-saw : goal.returns-in_ok-core-in-Inside-clause-saw
+returns-in_ok-core-in-Inside-clause-saw c =
+    let spot = c.in_ok-core.ensures.reached.spot ∙ ap (λ (p : Place). spot_of p c.in_ok-core.core.state) c.in-Inside.is in (
+      subst (λ (x : Application × Spot). IsFrame x.0 x.1 c.in_ok-core-in-Inside.frame) (λ i. (c.in_ok-core.ensures.application i, sym spot i)) c.in_ok-core-in-Inside.ensures.frame,
+      c.in_ok-core-in-Inside.ensures.first,
+    )
+
+pub returns-in_ok-core-in-Inside-clause-again : goal.returns-in_ok-core-in-Inside-clause-again
+returns-in_ok-core-in-Inside-clause-again c = record {
+  fit = c.into_application-generation-in-Inside.ensures.fit;
+  application = sym c.into_application-generation-in-Inside.ensures.application ∙ c.in_ok-core-in-Inside.ensures.application ∙ c.in_ok-core.ensures.application;
+  suits = c.requires.start.suits;
+  names = c.requires.start.names;
+  tries = c.requires.start.tries;
+}

@@ -1,0 +1,18 @@
+//! Laws of orders and walks.
+ghost use Rattle.lab_orders.specs.Laws.{OrdersAreWalked, WalksAreOrders};
+
+use laws_of_states::laws_of_places::facts_hold_along;
+use laws_of_states::laws_of_tables::states_stay_sound;
+
+/// Each order without its turns without effect is a walk, and what is sent and the tables at the end are the same.
+pub fn orders_are_walked()
+    ensures { OrdersAreWalked }
+{
+    facts_hold_along();
+    states_stay_sound();
+}
+
+/// Each walk is an order without its turns without effect.
+pub fn walks_are_orders()
+    ensures { WalksAreOrders }
+{}

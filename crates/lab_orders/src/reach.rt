@@ -1,0 +1,135 @@
+//! Where the turns of a walk lead: they are done from the start on.
+ghost use Rattle.std.specs.Prelude.{◌≡◌, ◌+◌, ◌*◌, ◌≤◌, ◌^◌, All, IfOk, sum_by};
+ghost use Rattle.abstract_monitor.specs.{Commands.{started}, CommandsOf.{IsCommandOf}};
+ghost use Rattle.laws_of_runs.specs.Applied.{applied};
+ghost use Rattle.laws_of_states.specs.Keeping.{HasFacts, IsScriptOf};
+ghost use Rattle.lab_orders.specs.{Finding.{CanStart}, Searching.{CanCount, IsTaken, IsWay, Reached, WentCommand, WentRun, quest_of}, Walking.{IsBeside, tries_of}};
+ghost use Rattle.lab_orders.specs.Searching.{Followed};
+
+use crate::frame::Frame;
+use crate::path::Path;
+use crate::start::begin;
+use crate::step::{do_command, do_turn};
+use abstract_monitor::Command;
+use application_types::generation::Generation;
+use application_types::units::Units;
+use kd_base::OutOfMemory;
+use kdcs_types::Tables;
+use monitor_core::Core;
+use std::alloc::Global;
+
+/// Where turns lead.
+#[derive(Clone, Copy)]
+pub(crate) enum Place {
+    /// Into a RUN: how many turns it has left behind the next one, and how many without effect there may have been.
+    Inside(u64, u64),
+    /// To the end of the script.
+    Ended,
+}
+
+/// What is left of the turns behind a command, and the place where they end in it.
+type Behind<'a> = (&'a [Frame], Option<Place>);
+
+// RUN: its turns, or as many as there are.
+fn reach_run<'a>(
+    alloc: Global,
+    mut core: Core,
+    path: &mut Path,
+    frames: &'a [Frame],
+    turns: u64,
+) -> Result<(Core, Behind<'a>), OutOfMemory>
+    requires beside { IsBeside core path.old }
+    requires taken { All (IsTaken core.application) frames.now }
+    requires steps { core.steps + turns ≤ 10 ^ 14 }
+    ensures went { IfOk result (λ next. WentRun core path.old turns frames.now next.0 path.new next.1.0.now next.1.1) }
+    ensures taken { IfOk result (λ next. All (IsTaken core.application) next.1.0.now) }
+    ensures steps { IfOk result (λ next. next.0.steps ≤ core.steps + turns) }
+{
+    let mut rest = frames;
+    let mut room = 0;
+    for made in 0..turns {
+        let Some((frame, behind)) = rest.split_first() else {
+            return Ok((core, (rest, Some(Place::Inside(turns - made - 1, room)))));
+        };
+        rest = behind;
+        let task = frame.turn();
+        if task == 0 {
+            path.signs.spent |= frame.is_spent();
+            return Ok((core, (rest, None)));
+        }
+        core = do_turn(alloc, core, path, task)?;
+        room += u64::from(frame.idle);
+    }
+    Ok((core, (rest, None)))
+}
+
+// One command, and what is left of the turns behind it.
+fn reach_command<'a>(
+    alloc: Global,
+    core: Core,
+    path: &mut Path,
+    command: &Command,
+    frames: &'a [Frame],
+) -> Result<(Core, Behind<'a>), OutOfMemory>
+    requires beside { IsBeside core path.old }
+    requires names { IsCommandOf core.application.generation command.now }
+    requires taken { All (IsTaken core.application) frames.now }
+    requires steps { core.steps + tries_of command.now ≤ 10 ^ 14 }
+    ensures went { IfOk result (λ next. WentCommand core path.old command.now frames.now next.0 path.new next.1.0.now next.1.1) }
+    ensures taken { IfOk result (λ next. All (IsTaken core.application) next.1.0.now) }
+    ensures steps { IfOk result (λ next. next.0.steps ≤ core.steps + tries_of command.now) }
+{
+    if let Command::Run(turns) = command {
+        return reach_run(alloc, core, path, frames, *turns);
+    }
+    let core = do_command(alloc, core, path, command)?;
+    Ok((core, (frames, None)))
+}
+
+// The commands, as far as there are turns for their RUNs.
+fn follow(
+    alloc: Global,
+    mut core: Core,
+    path: &mut Path,
+    commands: &[Command],
+    frames: &[Frame],
+) -> Result<(Core, Place), OutOfMemory>
+    requires beside { IsBeside core path.old }
+    requires names { IsScriptOf core.application commands.now }
+    requires taken { All (IsTaken core.application) frames.now }
+    requires steps { core.steps + sum_by tries_of commands.now ≤ 10 ^ 14 }
+    ensures { IfOk result (λ next. Followed core path.old commands.now frames.now next.0 path.new next.1) }
+{
+    let mut rest = frames;
+    for command in commands {
+        let (next, (behind, place)) = reach_command(alloc, core, path, command, rest)?;
+        core = next;
+        rest = behind;
+        if let Some(place) = place {
+            return Ok((core, place));
+        }
+    }
+    Ok((core, Place::Ended))
+}
+
+/// A monitor that starts, and goes as far as the turns lead.
+pub(crate) fn reach(
+    alloc: Global,
+    generation: Generation,
+    units: Units,
+    tables: &Tables,
+    commands: &[Command],
+    frames: &[Frame],
+) -> Result<(Core, Path, Place), OutOfMemory>
+    requires start { CanStart (applied generation units) tables.now commands.now generation units }
+    requires way { IsWay (applied generation units) commands.now (started (applied generation units) tables.now) frames.now }
+    ensures application { IfOk result (λ r. r.0.application ≡ applied generation units) }
+    ensures facts { IfOk result (λ r. HasFacts r.0.application r.0.state) }
+    ensures reached { IfOk result (λ r. Reached (quest_of (applied generation units) commands.now tables.now frames.now) r.0 r.1.sent r.2) }
+    ensures steps { IfOk result (λ r. r.0.steps ≤ sum_by tries_of commands.now) }
+    ensures few { IfOk result (λ r. CanCount r.2) }
+{
+    let (core, mut path) = begin(alloc, generation, units, tables)?;
+    let (core, place) = follow(alloc, core, &mut path, commands, frames)?;
+    Ok((core, path, place))
+}
