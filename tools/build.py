@@ -205,7 +205,7 @@ class Build:
     def run(self):
         """Proves what is not proved yet, and notes that the programs suit their sources as they were when these were read."""
         self.crates = read_crates(self.launchers)
-        lock(self.launcher, self.crates)
+        lock(self.launcher, self.crates, PROGRAMS[self.launchers[0]].crate)
         remove(self.workshop.folder)
         try:
             self.workshop.logs.mkdir(parents=True)
@@ -373,15 +373,18 @@ class Build:
 # The call
 
 
-def lock(launcher, crates):
+def lock(launcher, crates, program):
     """Waits until no other command works in the crates' folders, and keeps others out until this process ends.
 
-    rt takes these locks too, and in this order, so that no two commands wait for one another.
+    rt takes these locks too, and in this order, so that no two commands wait for one another. Where the program was built
+    before, from other sources, it is said how to go on with that one.
     """
     for crate in sorted(crates, key=lambda it: os.path.realpath(CRATES / it.name)):
         folder = os.open(CRATES / crate.name, os.O_RDONLY)
         if not is_locked(folder):
-            launcher.say(f"another command is at work in crates/{crate.name}: waiting until it has ended")
+            is_there = (CRATES / program / "out" / program).exists()
+            before = f"; its sources are newer than crates/{program}/out/{program}, which can be called meanwhile" if is_there else ""
+            launcher.say(f"another command is at work in crates/{crate.name}: waiting until it has ended{before}")
             while not is_locked(folder):
                 launcher.wait(1)
 

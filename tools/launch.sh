@@ -8,9 +8,9 @@ refuse() {
     exit 9
 }
 
-# Two words are the launcher's own, where they come first: with `--jobs N` what is built gets N processors, and with
-# `--build` the programs are built and none is run.
-jobs=0 builds_only=no
+# Three words are the launcher's own, where they come first: with `--jobs N` what is built gets N processors; with `--build`
+# the programs are built and none is run; and with `--install DIR` they are put into that folder too.
+jobs=0 builds_only=no installs_into=
 while :; do
     case ${1-} in
     --jobs)
@@ -23,6 +23,11 @@ while :; do
     --build)
         builds_only=yes
         shift
+        ;;
+    --install)
+        [ -n "${2-}" ] || refuse '--install DIR: DIR is the folder that the programs are put into'
+        builds_only=yes installs_into=$2
+        shift 2
         ;;
     *) break ;;
     esac
@@ -79,14 +84,26 @@ warns_of_halves() {
     fi
 }
 
+# installs: puts each program into the folder, under its own name, whole or not at all: one that is running there stays
+installs() {
+    mkdir -p -- "$installs_into" || refuse "--install: no programs are put into $installs_into"
+    for crate in utm live carry kdcs_lab; do
+        new=$installs_into/.$crate.new
+        { cp -- "$top/crates/$crate/out/$crate" "$new" && mv -f -- "$new" "$installs_into/$crate"; } ||
+            refuse "--install: not all programs are put into $installs_into"
+    done
+    echo "$name: utm, live, carry and kdcs_lab are put into $installs_into; they run there as they are, whatever is changed here" >&2
+}
+
 # becomes CRATE WORD..: becomes its program with these words, which is built first where it has to be
 becomes() {
     crate=$1
     shift
     if [ "$builds_only" = yes ]; then
-        [ $# = 0 ] || refuse '--build runs nothing, so no other word comes behind it'
+        [ $# = 0 ] || refuse '--build and --install run nothing, so no other word comes behind them'
         builds utm:utm lab:kdcs_lab live:live carry:carry || exit
         echo "$name: utm, lab, live and carry are built" >&2
+        [ -z "$installs_into" ] || installs
         exit 0
     fi
     if is_stale "$crate"; then

@@ -4,8 +4,8 @@
     python3 tools/sentences.py      says each sentence of more than 40 words, and each phrase for which there is a plainer
                                     one; the status is 1 then
 
-Looked at are README.md and docs/*.md, but for tables, headings and blocks. An item of a list begins a sentence, and so
-does a paragraph. A link counts as its text, and what is quoted as one word.
+Looked at are README.md and docs/*.md, but for headings and blocks. An item of a list begins a sentence, and so does a
+paragraph, and a cell of a table. A link counts as its text, and what is quoted as one word.
 """
 
 import re
@@ -22,8 +22,11 @@ PHRASE = re.compile(r"(?i)\bjust (?:where|that|this|these|what|so)\b")
 
 
 def paragraphs(text):
-    """The paragraphs and the items of lists, each in one line."""
-    text = re.sub(r"(?m)^(?:#+ .*|\|.*|!\[.*)$", "", without_blocks(text))
+    """The paragraphs, the items of lists and the cells of tables, each in one line."""
+    text = without_blocks(text)
+    for row in re.findall(r"(?m)^\|(.*)\|$", text):
+        yield from (it.strip() for it in re.split(r"(?<!\\)\|", row))
+    text = re.sub(r"(?m)^(?:#+ .*|\|.*|!\[.*)$", "", text)
     for part in re.split(r"\n\s*\n|\n(?=\s*(?:[-*]|\d+\.) )", text):
         part = re.sub(r"^\s*(?:[-*]|\d+\.) +", "", part)
         if part.strip():

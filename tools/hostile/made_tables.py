@@ -292,7 +292,8 @@ class Made:
             table.put_within(rows.long_row(), self.room)
         kinds = random.choices((1, 1, 2, 3, 4, 4, 4, 5, 5, 6), k=random.choice((0, 1, 4, 8, 12)))
         for kind in kinds + [4] * 3 * self.has("large"):
-            table.put_within(rows.row(kind), self.room)
+            if rows.numbers or kind not in (4, 5):
+                table.put_within(rows.row(kind), self.room)
         if self.has("below") and random.random() < 0.5:
             table.put_within((5, 12, rows.job(b"L", b"OTHER")), self.room)
         if self.has("twice"):

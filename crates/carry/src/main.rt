@@ -1,6 +1,7 @@
 //! The program `carry`: the top call over the files of the current folder and the standard output.
 //!
-//! It stands on carry_cli, whose call `carry` carries all promises, and on kd_host, the trusted edge.
+//! It stands on carry_cli, whose call `carry` carries all promises, and on kd_host, the trusted edge. The files are opened for
+//! reading alone by `state` and with `--try`; else one that is not there is made by the first write.
 #![tactic(auto)]
 
 use carry_cli::{There, carry};
@@ -43,6 +44,19 @@ fn there(rt: &(impl Files + AllocGlobal), words: &[String]) -> io::Result<There>
     })
 }
 
+/// Whether the words ask for no write.
+fn only_reads(words: &[String]) -> bool {
+    for word in words {
+        if word.as_bytes() == b"--try".as_slice() {
+            return true;
+        }
+    }
+    match words {
+        [word, ..] => word.as_bytes() == b"state".as_slice(),
+        [] => true,
+    }
+}
+
 fn main(rt: HostRuntime) -> ExitCode {
     let Ok(standard) = StandardDescriptors::take(&rt) else {
         return ExitCode::from(NO_ANSWER);
@@ -54,7 +68,11 @@ fn main(rt: HostRuntime) -> ExitCode {
         return ExitCode::from(NO_ANSWER);
     };
     let mut room = FolderRoom::new(&rt, "carry");
-    let mut twin = FileTwin::reading(&rt, "carry");
+    let mut twin = if only_reads(&words) {
+        FileTwin::reading(&rt, "carry")
+    } else {
+        FileTwin::making_late(&rt, "carry")
+    };
     let status = carry(rt.alloc(), &words, &mut room, &mut twin, there);
     drop(standard);
     ExitCode::from(status.code)

@@ -1,5 +1,5 @@
 -- How a call ends, from what its parts did.
-use Rattle.std.proofs.Common.{◌≡◌, ◌++◌, ◌∙◌, inl, inr, ⊎_elim, refl, sym, ap, subst, arith, ℕ, List, Some, None, Err, map, take}
+use Rattle.std.proofs.Common.{◌≡◌, ◌++◌, ◌∙◌, inl, inr, ⊎_elim, refl, sym, ap, subst, arith, ℕ, List, Option, Some, None, Err, map, take}
 use Rattle.std.specs.Prelude.{IsErrOf, IsTrue}
 use Rattle.std.proofs.lemmas.Option.{same_Some}
 use Rattle.kd_device.specs.Device.{Frame, Rose}
@@ -15,9 +15,10 @@ use Rattle.kdcfile_double.specs.MakingLaws.{RestsBoth}
 use Rattle.kdcfile_double.specs.Opening.{SameFiles}
 use Rattle.kdcfile_double.specs.Twice.{NoneRose}
 use Rattle.call_parts.specs.LeavingTwo.{FrameTwin, MayAttachTwo}
-use Rattle.carry_cli.specs.Promise.{AnswersCarry, AreLinesOf, EndsState, EndsUsage}
-use Rattle.carry_cli.specs.Words.{carry_usage_line, state_of}
+use Rattle.carry_cli.specs.Promise.{AnswersCarry, AreLinesOf, EndsCarry, EndsState, EndsUsage}
+use Rattle.carry_cli.specs.Words.{carry_of, carry_usage_line, state_of}
 use Rattle.carry_cli.specs.declared.kinds.There.{There}
+use Rattle.carry_cli.specs.declared.words.Options.{Options}
 
 -- want of memory is no call that failed
 pub memory_not_failed : (T : Type 0) (x : DeviceError) → x ≡ device.Memory → IsErrOf {T = T} (Err x) device.Failed → ⊥
@@ -158,19 +159,30 @@ module _ (a e : Both) (disks : (half : Half) → SameDisk half a e) (line_frame 
 
 -- ---- the call
 
-pub state_call : (words : List (List ℕ)) (base : List ℕ) (r r' : RoomState) (there : There) (a b : Both) (status : ℕ) → state_of words ≡ Some base → EndsState base r there a b status → SameRoom r r' → AnswersCarry words r r' there a b status
-state_call words base r r' there a b status asked ends same = record {
-  usage = λ none. absurd (some_none (sym asked ∙ none));
-  state = λ own is. subst (λ (l : List ℕ). EndsState l r there a b status) (same_Some base own (sym asked ∙ is)) ends;
-  same_room = same;
-}
+module _ (words : List (List ℕ)) (there : There) (a : Both) (la : ℕ → List ℕ → List ℕ → List ℕ → Type 0) where
+  pub state_call : (base : List ℕ) (r r' : RoomState) (b : Both) (lb : ℕ → List ℕ → List ℕ → List ℕ → Type 0) (status : ℕ) → state_of words ≡ Some base → EndsState base r there a b status → SameRoom r r' → AnswersCarry words r r' there a b la lb status
+  state_call base r r' b lb status asked ends same = record {
+    usage = λ none other. absurd (some_none (sym asked ∙ none));
+    state = λ own is. subst (λ (l : List ℕ). EndsState l r there a b status) (same_Some base own (sym asked ∙ is)) ends;
+    carries = λ own o none is. absurd (some_none (sym asked ∙ none));
+    same_room = same;
+  }
 
-pub usage_call : (words : List (List ℕ)) (r : RoomState) (there : There) (a b : Both) (status : ℕ) → state_of words ≡ None → EndsUsage a b status → AnswersCarry words r r there a b status
-usage_call words r there a b status none ends = record {
-  usage = λ is. ends;
-  state = λ base is. absurd (some_none (sym is ∙ none));
-  same_room = record { told = refl; texts = refl; sure = refl; faults = omega arith };
-}
+  pub carry_call : (base : List ℕ) (o : Options) (r r' : RoomState) (b : Both) (lb : ℕ → List ℕ → List ℕ → List ℕ → Type 0) (status : ℕ) → state_of words ≡ None → carry_of words ≡ Some (base, o) → EndsCarry base o r r' a b la lb status → SameRoom r r' → AnswersCarry words r r' there a b la lb status
+  carry_call base o r r' b lb status none asked ends same = record {
+    usage = λ no other. absurd (some_none (sym asked ∙ other));
+    state = λ own is. absurd (some_none (sym is ∙ none));
+    carries = λ own p no is. subst (λ (q : List ℕ × Options). EndsCarry q.0 q.1 r r' a b la lb status) (same_Some (base, o) (own, p) (sym asked ∙ is)) ends;
+    same_room = same;
+  }
+
+  pub usage_call : (r : RoomState) (b : Both) (lb : ℕ → List ℕ → List ℕ → List ℕ → Type 0) (status : ℕ) → state_of words ≡ None → carry_of words ≡ None → EndsUsage a b status → AnswersCarry words r r there a b la lb status
+  usage_call r b lb status none other ends = record {
+    usage = λ is too. ends;
+    state = λ base is. absurd (some_none (sym is ∙ none));
+    carries = λ base o no is. absurd (some_none (sym is ∙ other));
+    same_room = record { told = refl; texts = refl; sure = refl; faults = omega arith };
+  }
 
 -- the words, as they were handed on
 pub asked_state : {S : Type 0} (bytes : S → List ℕ) (given own : List S) (base : List ℕ) → given ≡ own → state_of (map bytes given) ≡ Some base → state_of (map bytes own) ≡ Some base
@@ -178,3 +190,6 @@ asked_state {S} bytes given own base is asked = subst (λ (l : List S). state_of
 
 pub asked_none : {S : Type 0} (bytes : S → List ℕ) (given own : List S) → given ≡ own → state_of (map bytes given) ≡ None → state_of (map bytes own) ≡ None
 asked_none {S} bytes given own is none = subst (λ (l : List S). state_of (map bytes l) ≡ None) is none
+
+pub asked_carry : {S : Type 0} (bytes : S → List ℕ) (given own : List S) (asked : Option (List ℕ × Options)) → given ≡ own → carry_of (map bytes given) ≡ asked → carry_of (map bytes own) ≡ asked
+asked_carry {S} bytes given own asked is h = subst (λ (l : List S). carry_of (map bytes l) ≡ asked) is h

@@ -12,6 +12,7 @@ use Rattle.device_acts.specs.Opening.{IsRefused}
 use Rattle.application_types.specs.Generation.{Generated}
 use Rattle.call_parts.specs.Asking.{gen_errand}
 use Rattle.carry_cli.specs.Kinds.{IsCounting, IsKind, IsStateOf, IsTold}
+use Rattle.carry_cli.specs.KindsLaws.{foreign_filled}
 use Rattle.carry_cli.specs.Seeing.{AreTexts, IsSeen, IsSound, NextIs, kind_of, said_of}
 use Rattle.carry_cli.specs.declared.kinds.Counting.{Counting}
 use Rattle.carry_cli.specs.declared.kinds.Kind.{Kind}
@@ -26,7 +27,7 @@ use Rattle.carry_cli.proofs.Seen.{empty_seen, kind_is}
 
 -- a file that stands for nothing is refused
 pub foreign_refused : (g : Generated) (fingerprint bytes : List ℕ) → IsSeen seen.Foreign bytes → IsRefused g fingerprint bytes
-foreign_refused g fingerprint bytes h = (h.0, no_tables g fingerprint bytes h.2)
+foreign_refused g fingerprint bytes h = (foreign_filled bytes h, no_tables g fingerprint bytes h.1)
 
 -- two files of which one was seen with bytes are not both empty
 pub not_empty : (f s : Seen) (a b : List ℕ) → IsSound f → IsSound s → IsSeen f a → IsSeen s b → ((f ≡ seen.Empty) × (s ≡ seen.Empty) → ⊥) → AreEmpty a b → ⊥

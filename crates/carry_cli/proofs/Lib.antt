@@ -2,3 +2,8 @@ pub mod Seen
 pub mod Going
 pub mod Ending
 pub mod Asked
+pub mod Asks
+pub mod Carried
+pub mod Carries
+pub mod Lacking
+pub mod Over

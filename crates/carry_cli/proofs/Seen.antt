@@ -1,19 +1,18 @@
 -- What was read of two files: which one counts, and what is told of each.
-use Rattle.std.proofs.Common.{◌≡◌, ℕ, ◌≤◌, ◌<◌, Bool, true, false, List, [], length, Option, Some, None, inl, inr, refl, sym, ap, subst, ◌∙◌, ◌+◌, ◌-◌, get_or, arith}
+use Rattle.std.proofs.Common.{◌≡◌, ℕ, ◌≤◌, ◌<◌, Bool, true, false, List, [], Option, Some, None, inl, inr, refl, sym, ap, subst, ◌∙◌, ◌+◌, ◌-◌, get_or, arith}
 use Rattle.kd_records.specs.Charge.{total_charge}
 use Rattle.kd_records.specs.declared.content.Content.{Content}
-use Rattle.kdcfile_copies.specs.Mending.{HasShutGate}
 use Rattle.kdcfile_store.specs.Paged.{Paged}
 use Rattle.kdcfile_copies.specs.Copies.{HasSequence, IsCopyOf, IsNoCopy, bare}
 use Rattle.kdcfile_copies.specs.CopiesLaws.{images_are_copies, no_image_is_no_copy, others_are_no_copies, sequence_is_one_page, some_none, store_is_copy}
 use Rattle.kdcfile_copies.specs.Finding.{IsAnswer, IsLoaded}
-use Rattle.kdcfile_copies.specs.MendingLaws.{shut_means_nothing}
 use Rattle.kdcfile_copies.specs.declared.answer.LoadedCopy.{LoadedCopy}
 use Rattle.kdcfile_layout.specs.Layout.{IsNoImage}
 use Rattle.kdcfile_store.specs.Paged.{HasFile}
 use Rattle.kdcfile_double.specs.Choice.{AreOfFiles, HasCopy, IsChoice, IsLoadedIf}
 use Rattle.kdcfile_double.specs.ChoiceLaws.{choice_fits, nothing_is_no_copy}
 use Rattle.kdcfile_double.specs.Twice.{AreSame, Twice, content_of, identity_of, sequence_of, with_copies}
+use Rattle.carry_cli.specs.KindsLaws.{foreign_filled, unfinished_means_nothing}
 use Rattle.carry_cli.specs.Kinds.{IsCounting, IsKind, made_once, made_twice, one_less}
 use Rattle.carry_cli.specs.Seeing.{IsSeen, IsSound, copy_of, empty_kind, found_of, kind_of}
 use Rattle.carry_cli.specs.declared.kinds.Counting.TheVariants as counts
@@ -25,11 +24,11 @@ use Rattle.carry_cli.specs.declared.seeing.Seen.TheVariants as seen
 pub no_sequence : (s : Paged) (bytes : List ℕ) → HasFile s bytes → IsNoCopy bytes → (n : ℕ) → HasSequence n s.content → ⊥
 no_sequence s bytes file none n has = none s.identity n (bare s.content) (images_are_copies s.identity s.content n bytes (s.second, s.layout, file) has)
 
-pub foreign_seen : (a b : List ℕ) → b ≡ a → (a ≡ [] → ⊥) → get_or b 0 0 ≡ 75 → IsNoImage a → IsSeen seen.Foreign a
-foreign_seen a b same filled gate none = (filled, subst (λ (l : List ℕ). get_or l 0 0 ≡ 75) same gate, none)
+pub foreign_seen : (a b : List ℕ) → b ≡ a → (get_or b 0 0 ≡ 0 → ⊥) → IsNoImage a → IsSeen seen.Foreign a
+foreign_seen a b same gate none = (λ zero. gate (subst (λ (l : List ℕ). get_or l 0 0 ≡ 0) (sym same) zero), none)
 
-pub shut_seen : (a b : List ℕ) → b ≡ a → HasShutGate b → IsSeen seen.Shut a
-shut_seen a b same shut = subst HasShutGate same shut
+pub shut_seen : (a b : List ℕ) → b ≡ a → (a ≡ [] → ⊥) → get_or b 0 0 ≡ 0 → IsSeen seen.Shut a
+shut_seen a b same filled gate = (filled, subst (λ (l : List ℕ). get_or l 0 0 ≡ 0) same gate)
 
 -- ---- the page of the sequence
 
@@ -54,8 +53,8 @@ less_made c loaded =
 
 pub seen_answer : (s : Seen) (bytes : List ℕ) → IsSeen s bytes → IsAnswer (found_of s) bytes
 seen_answer seen.Empty bytes h = h
-seen_answer seen.Shut bytes h = (λ is. let some = subst (λ (l : List ℕ). 1 ≤ length l) is h.some in omega (arith, some), no_image_is_no_copy bytes (shut_means_nothing bytes (inr h.shut)))
-seen_answer seen.Foreign bytes h = (h.0, no_image_is_no_copy bytes h.2)
+seen_answer seen.Shut bytes h = (h.0, no_image_is_no_copy bytes (unfinished_means_nothing bytes h))
+seen_answer seen.Foreign bytes h = (foreign_filled bytes h, no_image_is_no_copy bytes h.1)
 seen_answer (seen.Single store) bytes h = (h.0, others_are_no_copies store.identity store.content bytes (store.second, store.layout, h.1) h.2)
 seen_answer (seen.Copy c) bytes h = h
 
@@ -63,8 +62,8 @@ seen_answer (seen.Copy c) bytes h = h
 
 pub empty_seen : (s : Seen) (bytes : List ℕ) → IsSound s → IsSeen s bytes → bytes ≡ [] → s ≡ seen.Empty
 empty_seen seen.Empty bytes sound h is = refl
-empty_seen seen.Shut bytes sound h is = let some = subst (λ (l : List ℕ). 1 ≤ length l) is h.some in absurd (omega (arith, some))
-empty_seen seen.Foreign bytes sound h is = absurd (h.0 is)
+empty_seen seen.Shut bytes sound h is = absurd (h.0 is)
+empty_seen seen.Foreign bytes sound h is = absurd (foreign_filled bytes h is)
 empty_seen (seen.Single store) bytes sound h is = absurd (h.0 is)
 empty_seen (seen.Copy c) bytes sound h is = absurd (nothing_is_no_copy c.store.identity c.sequence (bare c.store.content) (subst (λ (l : List ℕ). IsCopyOf c.store.identity c.sequence (bare c.store.content) l) is (store_is_copy c.store c.sequence (bare c.store.content) bytes sound.keeps h)))
 
@@ -88,7 +87,7 @@ sound_if seen.Foreign h = tt
 sound_if (seen.Single store) h = tt
 sound_if (seen.Copy c) h = h
 
-has_copy : (s : Seen) (bytes : List ℕ) → IsSeen s bytes → HasCopy (copy_of s) bytes
+pub has_copy : (s : Seen) (bytes : List ℕ) → IsSeen s bytes → HasCopy (copy_of s) bytes
 has_copy seen.Empty bytes h = subst (λ (l : List ℕ). IsNoCopy l) (sym h) nothing_is_no_copy
 has_copy seen.Shut bytes h = (seen_answer seen.Shut bytes h).1
 has_copy seen.Foreign bytes h = (seen_answer seen.Foreign bytes h).1

@@ -6,7 +6,6 @@ use Rattle.kd_records.specs.Identity.{Identity}
 use Rattle.kd_records.specs.declared.content.Content.{Content}
 use Rattle.kdcfile_layout.specs.Layout.{IsNoImage, StandsFor}
 use Rattle.kdcfile_copies.specs.Copies.{AtMost, Below, HasSequence, IsCopyOf, IsNoCopy}
-use Rattle.kdcfile_copies.specs.Mending.{HasShutGate}
 use Rattle.kdcs_types.specs.Tables.{TableRows}
 use Rattle.laws_of_states.specs.Suits.{Suits}
 use Rattle.device_acts.specs.Opening.{IsOfOtherTexts, IsRefused}
@@ -40,12 +39,20 @@ made_twice i x = record { blksize = i.blksize; pgpool = i.pages - 1; used = tota
 abbrev pub one_less : Making → Making
 one_less m = record { blksize = m.blksize; pgpool = m.pgpool - 1; used = m.used - 1; fingerprint = m.fingerprint }
 
+-- a file whose making or mending did not end: its first byte is 0
+abbrev pub IsUnfinished : List ℕ → Type 0
+IsUnfinished bytes = (bytes ≡ [] → ⊥) × (get_or bytes 0 0 ≡ 0)
+
+-- a file that was never a KDCFILE, or was damaged: its first byte is another one, and it stands for nothing
+abbrev pub IsForeign : List ℕ → Type 0
+IsForeign bytes = (get_or bytes 0 0 ≡ 0 → ⊥) × IsNoImage bytes
+
 -- what a file is, by whether there is one and by its bytes
 abbrev pub IsKind : Kind → (there : Bool) → List ℕ → Type 0
 IsKind kind.Missing there bytes = (there ≡ false) × (bytes ≡ [])
 IsKind kind.Empty there bytes = (there ≡ true) × (bytes ≡ [])
-IsKind kind.Shut there bytes = HasShutGate bytes
-IsKind kind.NoKdcfile there bytes = (bytes ≡ [] → ⊥) × (get_or bytes 0 0 ≡ 75) × IsNoImage bytes
+IsKind kind.Shut there bytes = IsUnfinished bytes
+IsKind kind.NoKdcfile there bytes = IsForeign bytes
 IsKind (kind.Single m) there bytes = (i : Identity) × (x : Content) × StandsFor i x bytes × ((n : ℕ) → HasSequence n x → ⊥) × (m ≡ made_once i x)
 IsKind (kind.Copy n m) there bytes = (i : Identity) × (x : Content) × IsCopyOf i n x bytes × (m ≡ made_twice i x)
 
@@ -87,3 +94,7 @@ pub record IsStateOf (s : State) (base : List ℕ) (room : RoomState) (there : T
   pub second_is : IsKind s.second there.second b
   pub counts : IsCounting s.counting a b
   pub told : IsTold base room a b s.said s.next
+
+-- a file is one of these at most: no bytes are of two kinds
+abbrev pub FilesHaveOneState : Type 0
+FilesHaveOneState = (k l : Kind) (there : Bool) (bytes : List ℕ) → IsKind k there bytes → IsKind l there bytes → k ≡ l

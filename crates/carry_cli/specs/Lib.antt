@@ -1,5 +1,10 @@
 pub mod Kinds
+pub mod KindsLaws
 pub mod Lines
 pub mod Words
+pub mod Rows
+pub mod Telling
 pub mod Seeing
+pub mod Carrying
+pub mod Doing
 pub mod Promise

@@ -1,18 +1,16 @@
 -- What was read of a file, and what was read of the texts.
-use Rattle.std.specs.Prelude.{◌≡◌, ⊤, ℕ, Bool, true, false, IsTrue, IsSome, List, [], get_or, Option, Some, None, Ok, Err}
+use Rattle.std.specs.Prelude.{◌≡◌, ⊤, ℕ, Bool, true, false, IsTrue, IsSome, List, [], Option, Some, None, Ok, Err}
 use Rattle.kd_device.specs.Room.{RoomState}
-use Rattle.kdcfile_layout.specs.Layout.{IsNoImage}
 use Rattle.kdcfile_store.specs.Paged.{HasFile}
 use Rattle.kdcfile_copies.specs.Copies.{HasSequence, bare}
 use Rattle.kdcfile_copies.specs.Finding.{IsLoaded}
-use Rattle.kdcfile_copies.specs.Mending.{HasShutGate}
 use Rattle.kdcfile_copies.specs.declared.answer.Found.{Found}
 use Rattle.kdcfile_copies.specs.declared.answer.Found.TheVariants as found
 use Rattle.kdcfile_copies.specs.declared.answer.LoadedCopy.{LoadedCopy}
 use Rattle.refusals.specs.declared.error.Refusal.{Refusal}
 use Rattle.call_parts.specs.Asking.{AreThere, Reading, ReadsFor, ReadsForTwo, gen_errand}
 use Rattle.call_parts.specs.declared.words.Word.TheVariants.{Gen}
-use Rattle.carry_cli.specs.Kinds.{NextOfOne, NextOfTwo, made_once, made_twice}
+use Rattle.carry_cli.specs.Kinds.{IsForeign, IsUnfinished, NextOfOne, NextOfTwo, made_once, made_twice}
 use Rattle.carry_cli.specs.declared.kinds.Kind.{Kind}
 use Rattle.carry_cli.specs.declared.kinds.Kind.TheVariants as kind
 use Rattle.carry_cli.specs.declared.kinds.Next.{Next}
@@ -27,8 +25,8 @@ use Rattle.carry_cli.specs.declared.text_kinds.Texts.TheVariants as texts
 -- what was read of a file is what its bytes are
 abbrev pub IsSeen : Seen → List ℕ → Type 0
 IsSeen seen.Empty bytes = bytes ≡ []
-IsSeen seen.Shut bytes = HasShutGate bytes
-IsSeen seen.Foreign bytes = (bytes ≡ [] → ⊥) × (get_or bytes 0 0 ≡ 75) × IsNoImage bytes
+IsSeen seen.Shut bytes = IsUnfinished bytes
+IsSeen seen.Foreign bytes = IsForeign bytes
 IsSeen (seen.Single store) bytes = (bytes ≡ [] → ⊥) × HasFile store bytes × ((n : ℕ) → HasSequence n store.content → ⊥)
 IsSeen (seen.Copy c) bytes = HasFile c.store bytes
 

@@ -20,7 +20,7 @@ pub enum Kind {
     Missing,
     /// It has no bytes.
     Empty,
-    /// Its gate is not open: its making or its mending did not end.
+    /// Its first byte is 0: its making or its mending did not end.
     Shut,
     /// It has other bytes, which stand for nothing.
     NoKdcfile,

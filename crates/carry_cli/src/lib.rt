@@ -1,22 +1,33 @@
-//! The top call of who carries a KDCFILE about: `state` tells what the files of a BASE are and what the next run would do
-//! with them.
+//! The top call of who carries a KDCFILE about: the files of a BASE are carried to its texts, in one file or in two copies,
+//! or it is tried; and `state` tells what they are and what the next run would do with them.
 //!
-//! It stands on call_parts, which reads the texts and attaches the files; on kdcfile_copies, which tells what a file is; and
-//! on device_acts and kdcfile_double, which say what an opening answers. To the program above, its contract says that the
-//! lines of `state` are those of the bytes of both files and of the texts, by a definition for each line; that nothing is
-//! written, and that a fault of the texts keeps no line back; and which cause each status has.
+//! It stands on call_parts, which reads the texts and attaches the files; on kdcfile_carry, which carries them; on
+//! kdcfile_copies, which tells what a file is; and on device_acts and kdcfile_double, which say what an opening answers. To
+//! the program above, its contract says of files that are carried what a stop at any moment leaves, that nothing is said
+//! before they stand, that each half stands for the carried tables where the status is 0, that no row goes and no byte is
+//! written unless that was asked for, and why files are refused. Of `state` it says that the lines are those of the bytes of
+//! both files and of the texts, by a definition for each line, and that nothing is written. Each status has its causes.
 #![tactic(auto)]
 
+mod answer;
+mod asking;
+mod carrying;
 mod counting;
 mod kinds;
+mod laws;
 mod lines;
 mod making;
+mod missing;
 mod next;
+mod row_lines;
 mod seeing;
 mod state;
 mod text_kinds;
 mod top;
 mod words;
 
+pub use answer::{Answer, Hindrance};
 pub use kinds::{Counting, Kind, Making, Next, Said, State, There, Why};
+pub use laws::files_have_one_state;
 pub use top::carry;
+pub use words::Options;

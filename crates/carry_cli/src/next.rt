@@ -1,5 +1,5 @@
 //! What the next run would do with the files of a BASE.
-ghost use Rattle.std.specs.Prelude.{◌≡◌, ◌↔◌, [], List, ℕ, IsTrue, IfOk};
+ghost use Rattle.std.specs.Prelude.{◌≡◌, [], List, ℕ, IfOk};
 ghost use Rattle.kdcfile_store.specs.Paged.{HasFile};
 ghost use Rattle.call_parts.specs.Asking.{gen_errand};
 ghost use Rattle.carry_cli.specs.{Kinds.{NextOfOne, NextOfTwo}, Seeing.{IsSeen, IsSound, NextIs}};
@@ -42,18 +42,6 @@ fn next_of_one(alloc: Global, work: &Work, seen: &Seen) -> Result<Next, OutOfMem
     }
 }
 
-fn is_empty(seen: &Seen) -> bool
-    ensures { IsTrue result ↔ (seen.now ≡ Seen.Empty) }
-{
-    match seen {
-        Seen::Empty => true,
-        Seen::Shut => false,
-        Seen::Foreign => false,
-        Seen::Single(_) => false,
-        Seen::Copy(_) => false,
-    }
-}
-
 // What a run over two files would do with them that are not both empty.
 fn next_of_filled(
     alloc: Global,
@@ -89,7 +77,7 @@ fn next_of_two(alloc: Global, work: &Work, first: Seen, second: Seen) -> Result<
     requires second { IsSound second }
     ensures { IfOk result (λ next. (a b : List ℕ) → IsSeen first a → IsSeen second b → NextOfTwo (gen_errand work.now) a b next) }
 {
-    if is_empty(&first) && is_empty(&second) {
+    if first.is_empty() && second.is_empty() {
         return Ok(Next::Makes);
     }
     next_of_filled(alloc, work, first, second)

@@ -1,8 +1,8 @@
 //! What a file is, read from a device, from a half of a twin, and from both.
-ghost use Rattle.std.specs.Prelude.{◌≡◌, ◌⊎◌, ℕ, List, IsTrue, IfOk, IsErrOf, true, false, [], get_or, MatchOption, Some, None};
+ghost use Rattle.std.specs.Prelude.{◌≡◌, ◌⊎◌, ◌↔◌, ℕ, List, IsTrue, IfOk, IsErrOf, [], get_or, MatchOption, Some, None};
 ghost use Rattle.kd_device.specs.{Device.{Rose, Frame, SameFaults, SameNames}, Rest.{Rests}};
 ghost use Rattle.kd_device.specs.{declared.half.Half.TheVariants.{First, Second}, Twin.{half_leaves, half_state, other}, Apart.{IsSince}};
-ghost use Rattle.kdcfile_copies.specs.{Beside.{SameDisk, LeavesBeside, NoMore, OtherStays}, Copies.{IsNoCopy}, Mending.{HasShutGate}};
+ghost use Rattle.kdcfile_copies.specs.{Beside.{SameDisk, LeavesBeside, NoMore, OtherStays}, Copies.{IsNoCopy}};
 ghost use Rattle.kdcfile_double.specs.{MakingLaws.{RestsBoth}, Twice.{FrameBoth, NoneRose, RoseAt}};
 ghost use Rattle.call_parts.specs.LeavingTwo.{FrameTwin, MayAttachTwo};
 ghost use Rattle.carry_cli.specs.Seeing.{IsSeen, IsSound, copy_of, found_of};
@@ -14,17 +14,17 @@ use kdcfile_store::{LoadError, PagedStore};
 use std::alloc::Global;
 use std::marker::Brand;
 
-/// The gate of a file that is whole.
-const OPEN: u8 = 75;
+/// The gate of a file whose making or mending did not end.
+const SHUT: u8 = 0;
 
 /// A file as it was read.
 #[derive(Drop)]
 pub(crate) enum Seen {
     /// It has no bytes.
     Empty,
-    /// Its gate is not open.
+    /// Its making or its mending did not end.
     Shut,
-    /// Its gate is open, and it stands for nothing.
+    /// It has other bytes, which stand for nothing.
     Foreign,
     /// It has no sequence.
     Single(PagedStore),
@@ -45,6 +45,19 @@ impl Seen {
         }
     }
 
+    /// It has no bytes.
+    pub(crate) fn is_empty(&self) -> bool
+        ensures { IsTrue result ↔ (self.now ≡ Seen.Empty) }
+    {
+        match self {
+            Seen::Empty => true,
+            Seen::Shut => false,
+            Seen::Foreign => false,
+            Seen::Single(_) => false,
+            Seen::Copy(_) => false,
+        }
+    }
+
     /// The same for who opens two copies.
     pub(crate) fn into_found(self) -> Found
         ensures { result ≡ found_of self }
@@ -59,10 +72,10 @@ impl Seen {
     }
 }
 
-// Whether a file that has bytes begins with the open gate.
-fn has_open_gate<D: Device>(device: &mut D) -> Result<bool, DeviceError>
+// Whether a file that has bytes begins with the gate of one that is not finished.
+fn has_shut_gate<D: Device>(device: &mut D) -> Result<bool, DeviceError>
     requires filled { IsTrue (D.state device.old).told → ((D.state device.old).holds ≡ [] → ⊥) }
-    ensures gate { IfOk result (λ whole. IsTrue (D.state device.old).told → (whole ≡ true → get_or (D.state device.old).holds 0 0 ≡ 75) × (whole ≡ false → HasShutGate (D.state device.old).holds)) }
+    ensures gate { IfOk result (λ shut. IsTrue (D.state device.old).told → IsTrue shut ↔ (get_or (D.state device.old).holds 0 0 ≡ 0)) }
     ensures rests { IsTrue (D.state device.old).told → Rests (D.state device.old) (D.state device.new) (D.leaves device.old) (D.leaves device.new) }
     ensures failed { IsErrOf result DeviceError.Failed → Rose (D.state device.old).disk_faults (D.state device.new).disk_faults }
     ensures fine { (IsErrOf result DeviceError.Failed → ⊥) → SameFaults (D.state device.old) (D.state device.new) }
@@ -71,7 +84,7 @@ fn has_open_gate<D: Device>(device: &mut D) -> Result<bool, DeviceError>
 {
     let mut gate = [0];
     let _read = device.read_at(0, &mut gate)?;
-    Ok(gate[0] == OPEN)
+    Ok(gate[0] == SHUT)
 }
 
 // What a file is that has bytes and is no copy.
@@ -89,11 +102,11 @@ fn see_other<D: Device>(alloc: Global, device: &mut D) -> Result<Seen, DeviceErr
     match PagedStore::load(alloc, device) {
         Ok(store) => Ok(Seen::Single(store)),
         Err(LoadError::NotKdcfile) => {
-            let is_open = has_open_gate(device)?;
-            if is_open {
-                Ok(Seen::Foreign)
-            } else {
+            let is_shut = has_shut_gate(device)?;
+            if is_shut {
                 Ok(Seen::Shut)
+            } else {
+                Ok(Seen::Foreign)
             }
         }
         Err(LoadError::Failed) => Err(DeviceError::Failed),

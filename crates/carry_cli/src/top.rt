@@ -1,17 +1,21 @@
 //! The top call: what the words ask for is done, and answered as a status.
 ghost use Rattle.std.specs.{Prelude.{◌≡◌, map}, String.{string_bytes}};
-ghost use Rattle.carry_cli.specs.Promise.{AnswersCarry, EndsUsage};
+ghost use Rattle.kd_device.specs.Room.{SameRoom};
+ghost use Rattle.carry_cli.specs.Promise.{AnswersCarry, EndsCarry, EndsUsage};
 
+use crate::asking::work_of;
+use crate::carrying::carry_work;
 use crate::kinds::There;
 use crate::state::state;
-use crate::words::state_of;
+use crate::words::{Options, carry_of, state_of};
+use call_parts::{Cause, refuse_beside};
 use kd_device::{DeviceError, Room, Twin};
 use kdcfile_copies::kdcfile_halves::say_both;
-use refusals::Status;
+use refusals::{Status, TextError};
 use std::alloc::Global;
 
 /// What is sent where the words are none of the forms.
-const USAGE: &[u8] = b"USAGE: carry state BASE\n";
+const USAGE: &[u8] = b"USAGE: carry BASE [--drop] [--try] [--alone], carry state BASE\n";
 
 // Sends the usage line.
 fn usage<T: Twin>(twin: &mut T) -> Status
@@ -24,12 +28,39 @@ fn usage<T: Twin>(twin: &mut T) -> Status
     }
 }
 
-/// Does what the words after the program's name ask for. `state BASE` tells in lines what BASE.KDCA and BASE.KDCB are, what
-/// the texts of BASE are, which copy counts, and what the next run would do; `there` says whether there is a file of each
-/// name. Nothing is written.
+// Carries the files of this BASE to its texts.
+fn carry_base<R: Room, T: Twin>(
+    alloc: Global,
+    room: &mut R,
+    twin: &mut T,
+    base: &[u8],
+    options: Options,
+) -> Status
+    ensures ends { EndsCarry base.now options (R.room room.old) (R.room room.new) (T.both twin.old) (T.both twin.new) (T.leaves twin.old) (T.leaves twin.new) result.code }
+    ensures same { SameRoom (R.room room.old) (R.room room.new) }
+{
+    match work_of(alloc, room, base) {
+        Ok(work) => carry_work(alloc, twin, base, &work, options),
+        Err(TextError::Refused(why)) => refuse_beside(alloc, twin, Cause::Texts(why)),
+        Err(TextError::Room) => Status::ROOM,
+        Err(TextError::Memory) => Status::MEMORY,
+    }
+}
+
+/// Does what the words after the program's name ask for.
 ///
-/// The status is 0 where all was told, whatever it is; 1 for words that are none of the forms; 5 where a disk or the line
-/// failed; 7 for want of memory.
+/// `BASE` with options carries the KDCFILE of the BASE, which is one file or two copies, to its texts as they are now, which
+/// may ask for one or for two, and sends the report of `update`. Copies that are up to date are made alike. Where a row
+/// would go, it is sent as `show` prints it, and nothing is written, unless `--drop` lets it go. With `--try` no file is
+/// written, and what would be done is sent. Where one file is empty or not there beside a copy, nothing is done without
+/// `--alone`.
+///
+/// `state BASE` tells in lines what BASE.KDCA and BASE.KDCB are, what the texts of BASE are, which copy counts, and what the
+/// next run would do; `there` says whether there is a file of each name. Nothing is written.
+///
+/// The status is 0 where all was done, or told; 1 for words that are none of the forms; 2 for a definition or units that are
+/// refused; 4 for files that are not carried; 5 where a disk or the line failed; 6 where a text could not be read; 7 for
+/// want of memory; 10 where rows would go. `state` has 0, 5 and 7 alone.
 pub fn carry<R: Room, T: Twin>(
     alloc: Global,
     words: &Vec<String>,
@@ -37,10 +68,13 @@ pub fn carry<R: Room, T: Twin>(
     twin: &mut T,
     there: There,
 ) -> Status
-    ensures { AnswersCarry (map string_bytes words.now.items) (R.room room.old) (R.room room.new) there (T.both twin.old) (T.both twin.new) result.code }
+    ensures { AnswersCarry (map string_bytes words.now.items) (R.room room.old) (R.room room.new) there (T.both twin.old) (T.both twin.new) (T.leaves twin.old) (T.leaves twin.new) result.code }
 {
-    match state_of(words) {
-        Some(base) => state(alloc, room, twin, base, there),
+    if let Some(base) = state_of(words) {
+        return state(alloc, room, twin, base, there);
+    }
+    match carry_of(words) {
+        Some((base, options)) => carry_base(alloc, room, twin, base, options),
         None => usage(twin),
     }
 }

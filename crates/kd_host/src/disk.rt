@@ -17,6 +17,8 @@ use std::{fs, io};
 pub(crate) enum Mode {
     /// For reading and writing; one that is not there is made, and one that may not be written is attached for reading.
     Whole,
+    /// The same, but one that is not there is as an empty one, and is made by the first write.
+    Late,
     /// For reading; one that is not there is not made, and is as an empty one.
     Reading,
 }
@@ -58,7 +60,7 @@ impl Model for DiskFile {
     ghost view = { λ d. d.faults };
 }
 
-// A file that is open and locked, and why it can only be read, if so; or none of that name, for who only reads.
+// A file that is open and locked, and why it can only be read, if so; or none of that name, which no write has made.
 #[derive(Drop)]
 enum Attached {
     Open(File, Option<ErrorKind>),
@@ -71,8 +73,17 @@ fn open<R: Files<File = File>>(rt: &R, name: &[u8], mode: Mode) -> io::Result<At
         return Err(io::Error::from(ErrorKind::InvalidInput));
     };
     match mode {
-        Mode::Whole => open_whole(rt, path),
+        Mode::Whole => open_whole(rt, path, true),
+        Mode::Late => open_late(rt, path),
         Mode::Reading => open_there(rt, path),
+    }
+}
+
+// The file of this name for reading and writing, or that there is none.
+fn open_late<R: Files<File = File>>(rt: &R, path: &str) -> io::Result<Attached> {
+    match open_whole(rt, path, false) {
+        Err(error) if error.kind() == ErrorKind::NotFound => Ok(Attached::Absent),
+        opened => opened,
     }
 }
 
@@ -85,13 +96,13 @@ fn open_there<R: Files<File = File>>(rt: &R, path: &str) -> io::Result<Attached>
     }
 }
 
-// The file of this name, for reading and writing; it is made where it is not there. One that is refused for writing is
-// opened for reading.
-fn open_whole<R: Files<File = File>>(rt: &R, path: &str) -> io::Result<Attached> {
+// The file of this name, for reading and writing; it is made where it is not there, if it is to be. One that is refused
+// for writing is opened for reading.
+fn open_whole<R: Files<File = File>>(rt: &R, path: &str, makes: bool) -> io::Result<Attached> {
     let opened = OpenOptions::new()
         .read(true)
         .write(true)
-        .create(true)
+        .create(makes)
         .open(rt, path);
     match opened {
         Ok(file) => lock(file),
@@ -225,8 +236,18 @@ impl DiskFile {
         )
     }
 
+    // Makes the file, where the first write is to make it.
+    fn make_late<R: Files<File = File>>(&mut self, rt: &R) -> io::Result<()>
+        ensures { self.new ≡ self.old }
+    {
+        if let (Mode::Late, Some(Attached::Absent)) = (self.mode, &self.file) {
+            self.file = Some(open_whole(rt, &self.name, true)?);
+        }
+        Ok(())
+    }
+
     /// Writes over what is there and past the end.
-    pub(crate) fn write_at<R: Eprint>(
+    pub(crate) fn write_at<R: Files<File = File> + Eprint>(
         &mut self,
         rt: &R,
         at: u64,
@@ -236,8 +257,9 @@ impl DiskFile {
         ensures fine { OnOk result (self.new ≡ self.old) }
         ensures later { self.old ≤ self.new }
     {
+        let made = self.make_late(rt);
         let written = match &self.file {
-            Some(attached) => write_to(attached, at, bytes),
+            Some(attached) => made.and_then(|()| write_to(attached, at, bytes)),
             None => Err(not_attached()),
         };
         counted(

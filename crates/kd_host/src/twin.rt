@@ -46,6 +46,16 @@ impl<'a, R: Files<File = File> + Print + Eprint + AllocGlobal> FileTwin<'a, R> {
         FileTwin::attaching(rt, program, Mode::Whole)
     }
 
+    /// The same, but an attach makes no file: one that is not there is as an empty one, and the first write makes it.
+    pub fn making_late(rt: &'a R, program: &'static str) -> FileTwin<'a, R>
+        ensures first { (both_of result).first.disk_faults ≡ 0 }
+        ensures second { (both_of result).second.disk_faults ≡ 0 }
+        ensures line { (both_of result).line_faults ≡ 0 }
+        ensures told { (both_of result).told ≡ false }
+    {
+        FileTwin::attaching(rt, program, Mode::Late)
+    }
+
     /// The same for a program that only reads: an attach makes no file, one that is not there is as an empty one, and each
     /// write fails. Others who only read may have the same files.
     pub fn reading(rt: &'a R, program: &'static str) -> FileTwin<'a, R>

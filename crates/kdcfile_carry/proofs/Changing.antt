@@ -1,7 +1,7 @@
 -- The first file is changed by one commit, between what is ready before and what stands afterwards.
 use Rattle.std.specs.Prelude.{◌≡◌, ◌⊎◌, ◌≤◌, ◌<◌, ◌^◌, ℕ, ◌+◌, Bool, true, false, IsTrue, List, Option, Some, None, IfSome, is_some, get_or}
 use Rattle.std.proofs.Common.{inl, inr, ⊎_elim, refl, sym, ap, subst, ◌∙◌, arith}
-use Rattle.kd_device.specs.Twin.{Both, Disk, half_leaves, half_state}
+use Rattle.kd_device.specs.Twin.{Both, Disk, disk_of, half_leaves, half_state, other}
 use Rattle.kd_device.specs.declared.half.Half.{Half}
 use Rattle.kd_device.specs.declared.half.Half.TheVariants.{First, Second}
 use Rattle.kd_records.specs.Identity.{Identity}
@@ -24,13 +24,14 @@ use Rattle.kdcfile_double.specs.MendLaws.{copy_open}
 use Rattle.kdcfile_double.specs.Opening.{last_sequence}
 use Rattle.kdcfile_carry.specs.declared.finding.Kept.{Kept}
 use Rattle.kdcfile_update.specs.Carrying.{carried}
-use Rattle.kdcfile_carry.specs.Doing.{AreEither, IsReady}
+use Rattle.kdcfile_carry.specs.Doing.{AreEither, IsOnFirst, IsReady}
 use Rattle.kdcfile_carry.specs.Files.{AreFiles, AreFilesBy, Files}
 use Rattle.kdcfile_carry.specs.FilesLaws.{copy_has_no_tables}
 use Rattle.kdcfile_carry.specs.Keeping.{BesideBy, IsIn, IsKnown, IsSource, content_by, files_in}
 use Rattle.kdcfile_carry.specs.KeepingLaws.{beside_next, first_files, first_is_source, source_files}
-use Rattle.kdcfile_carry.specs.Leaving.{EachStands, StaysWithin}
+use Rattle.kdcfile_carry.specs.Leaving.{EachStands, LeavesFiles, StaysWithin}
 use Rattle.kdcfile_carry.specs.LeavingLaws.{HalfHas, half_stays, stays_weaker}
+use Rattle.kdcfile_carry.specs.Promise.{IsBehind}
 use Rattle.kdcfile_carry.specs.Ways.{carried_files, made_with, next_sequence}
 
 -- where nothing is done, what is there stays
@@ -56,10 +57,10 @@ module _ (k : Kept) (a b : Both) (is_in : IsIn k a.first.holds a.second.holds) w
   pub source_second : k.home ≡ Second → (n : ℕ) → k.sequence ≡ Some n → IsSource Second k.file.store.identity n k.tables a.first.holds a.second.holds
   source_second second n is = subst (λ (h : Half). IsSource h k.file.store.identity n k.tables a.first.holds a.second.holds) second (is_in.source n is)
 
-  pub source_first : k.home ≡ First → (n : ℕ) → k.sequence ≡ Some n → IsSource First k.file.store.identity n k.tables a.first.holds a.second.holds
+  source_first : k.home ≡ First → (n : ℕ) → k.sequence ≡ Some n → IsSource First k.file.store.identity n k.tables a.first.holds a.second.holds
   source_first first n is = subst (λ (h : Half). IsSource h k.file.store.identity n k.tables a.first.holds a.second.holds) first (is_in.source n is)
 
-  pub has_first : k.home ≡ First → HasFile k.file.store a.first.holds
+  has_first : k.home ≡ First → HasFile k.file.store a.first.holds
   has_first first = subst (λ (h : Half). HasFile k.file.store (file_of h a.first.holds a.second.holds)) first is_in.has
 
   pub open_second : k.home ≡ Second → (n : ℕ) → k.sequence ≡ Some n → get_or a.second.holds 0 0 ≡ 75
@@ -67,12 +68,12 @@ module _ (k : Kept) (a b : Both) (is_in : IsIn k a.first.holds a.second.holds) w
 
   -- after the first half was written anew from the second
   module _ (second : k.home ≡ Second) (begins : BeginsWith a.second.holds b.first.holds) (same : b.second.holds ≡ a.second.holds) where
-    pub has_anew : HasFile k.file.store b.first.holds
+    has_anew : HasFile k.file.store b.first.holds
     has_anew =
         copies_mean_the_same k.file.store.identity k.file.store.second k.file.store.content k.file.store.layout a.second.holds b.first.holds
         (subst (λ (h : Half). HasFile k.file.store (file_of h a.first.holds a.second.holds)) second is_in.has) begins
 
-    pub source_anew : (n : ℕ) → k.sequence ≡ Some n → EachStands k.file.store.identity k.tables (Some n) None b → IsSource First k.file.store.identity n k.tables b.first.holds b.second.holds
+    source_anew : (n : ℕ) → k.sequence ≡ Some n → EachStands k.file.store.identity k.tables (Some n) None b → IsSource First k.file.store.identity n k.tables b.first.holds b.second.holds
     source_anew n is each =
         let was = source_second second n is in
         let copy : IsCopyOf k.file.store.identity n (content_of_tables k.tables) b.first.holds = ⊎_elim (λ lost. absurd cc) (λ is_copy. is_copy) (each First) in
@@ -83,6 +84,10 @@ module _ (k : Kept) (a b : Both) (is_in : IsIn k a.first.holds a.second.holds) w
           none = copy_has_no_tables k.file.store.identity n k.tables b.first.holds copy;
         }
 
+-- the first half has what was found
+pub first_is_on : (k : Kept) (a : Both) → IsIn k a.first.holds a.second.holds → k.home ≡ First → IsOnFirst k a.first.holds a.second.holds
+first_is_on k a is_in first = record { files = is_in.files; has = has_first k a a is_in first; source = source_first k a a is_in first }
+
 -- two copies, where the other half is not the same
 pub not_alone : (k : Kept) → IsKnown k → k.alike ≡ false → (n : ℕ) × (k.sequence ≡ Some n)
 not_alone k known differs = by k.sequence refl
@@ -90,6 +95,14 @@ not_alone k known differs = by k.sequence refl
     by : (s : Option ℕ) → k.sequence ≡ s → (n : ℕ) × (k.sequence ≡ Some n)
     by None is = let other : true ≡ false = sym (known.alone is) ∙ differs in absurd cc
     by (Some n) is = (n, is)
+
+-- the other half is not the copy that counts
+pub is_behind : (k : Kept) (a : Both) → IsIn k a.first.holds a.second.holds → k.alike ≡ false → (half : Half) → half ≡ other k.home → IsBehind (files_in k) half a
+is_behind k a is_in differs half is = λ n numbered copy. is_in.unlike differs n numbered (subst (λ (h : Half). IsCopyOf k.file.store.identity n (content_of_tables k.tables) (file_of h a.first.holds a.second.holds)) is (by n half copy))
+  where
+    by : (n : ℕ) (h : Half) → IsCopyOf k.file.store.identity n (content_of_tables k.tables) (disk_of h a).holds → IsCopyOf k.file.store.identity n (content_of_tables k.tables) (file_of h a.first.holds a.second.holds)
+    by n First copy = copy
+    by n Second copy = copy
 
 -- where the other half is the same, each one stands
 pub alike_stands : (k : Kept) (a : Both) → IsIn k a.first.holds a.second.holds → IsTrue k.alike → EachStands k.file.store.identity k.tables k.sequence None a
@@ -106,6 +119,18 @@ alike_stands k a is_in same = by k.sequence refl is_in.files
 -- files, by the source of a copy
 pub source_in : (k : Kept) (half : Half) (n : ℕ) (c d : List ℕ) → k.sequence ≡ Some n → IsSource half k.file.store.identity n k.tables c d → AreFiles (files_in k) c d
 source_in k half n c d is source = subst (λ (s : Option ℕ). AreFilesBy k.file.store.identity k.tables s c d) (sym is) (source_files half k.file.store.identity n k.tables c d source)
+
+-- the first half was written anew from the second
+pub anew_on_first : (k : Kept) → IsKnown k → (a b : Both) → IsIn k a.first.holds a.second.holds → k.home ≡ Second → BeginsWith a.second.holds b.first.holds → b.second.holds ≡ a.second.holds → ((n : ℕ) → k.sequence ≡ Some n → EachStands k.file.store.identity k.tables (Some n) None b)
+    → IsOnFirst k b.first.holds b.second.holds
+anew_on_first k known a b is_in second begins same each =
+    let source : (n : ℕ) → k.sequence ≡ Some n → IsSource First k.file.store.identity n k.tables b.first.holds b.second.holds = λ n is. source_anew k a b is_in second begins same n is (each n is) in
+    let n = numbered k known second in
+    record {
+      files = source_in k First n.0 b.first.holds b.second.holds n.1 (source n.0 n.1);
+      has = has_anew k a b is_in second begins same;
+      source = source;
+    }
 
 -- ---- the second file is ready
 
@@ -199,9 +224,27 @@ next_some true None two = (0, refl)
 next_some true (Some n) two = (n + 1, refl)
 next_some false s two = absurd cc
 
-pub one_not_two : (double : Bool) → double ≡ true → double ≡ false → ⊥
-one_not_two true two one = absurd cc
-one_not_two false two one = absurd cc
+-- what is asked for
+pub two_asked : (asked double : Option ℕ) (line : ℕ) → asked ≡ double → asked ≡ Some line → is_some double ≡ true
+two_asked asked (Some n) line same is = refl
+two_asked asked None line same is = let no : None ≡ Some line = sym same ∙ is in absurd cc
+
+pub one_asked : (asked double : Option ℕ) → asked ≡ double → asked ≡ None → is_some double ≡ false
+one_asked asked None same is = refl
+one_asked asked (Some n) same is = let no : Some n ≡ None = sym same ∙ is in absurd cc
+
+pub next_none : (double : Bool) (s : Option ℕ) → double ≡ false → next_sequence double s ≡ None
+next_none false s one = refl
+next_none true s one = absurd cc
+
+-- there is one file, and nothing was lost
+pub one_stands_alone : (i : Identity) (t : TableRows) (s : Option ℕ) (b : Both) → s ≡ None → AreFilesBy i t s b.first.holds b.second.holds → EachStands i t s None b
+one_stands_alone i t None b is h = (h.0, h.1, refl)
+one_stands_alone i t (Some n) b is h = absurd cc
+
+-- both files at rest are what they are now
+pub now_leaves : (f : Files) (b : Both) (lb : ℕ → List ℕ → List ℕ → List ℕ → Type 0) → BothRest b lb → AreFiles f b.first.holds b.second.holds → LeavesFiles f b lb
+now_leaves f b lb rest are = λ c d left. subst (λ (x : List ℕ). AreFiles f x d) (sym (rest.first_rests c d left)) (subst (λ (x : List ℕ). AreFiles f b.first.holds x) (sym (rest.second_rests c d left)) are)
 
 -- the second file was written anew from the first one, or is lost
 module _ (f : Files) (j : Identity) (t : TableRows) (s : Option ℕ) (n : ℕ) (is : s ≡ Some n) where

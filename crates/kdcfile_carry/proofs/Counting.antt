@@ -3,6 +3,7 @@ use Rattle.std.specs.Prelude.{◌≡◌, ◌≤◌, ◌<◌, ℕ, Bool, false, I
 use Rattle.std.proofs.Common.{inl, inr, refl, sym, ap, subst, ◌∙◌, arith}
 use Rattle.kd_base.specs.ToolsLaws.{some_is}
 use Rattle.kd_device.specs.declared.half.Half.{Half}
+use Rattle.kd_device.specs.Twin.{other}
 use Rattle.kd_device.specs.declared.half.Half.TheVariants.{First, Second}
 use Rattle.kd_records.specs.Identity.{Identity}
 use Rattle.kd_records.specs.declared.content.Content.{Content}
@@ -12,8 +13,8 @@ use Rattle.device_acts.specs.Stands.{AreTables, StandsForNoTables}
 use Rattle.kdcfile_store.specs.Paged.{HasFile, Paged}
 use Rattle.kdcfile_copies.specs.Beside.{file_of}
 use Rattle.kdcfile_copies.specs.declared.answer.LoadedCopy.{LoadedCopy}
-use Rattle.kdcfile_copies.specs.Copies.{AtMost, Below, IsChosen, IsCopyOf, IsNoCopy, bare}
-use Rattle.kdcfile_copies.specs.CopiesLaws.{one_is_chosen, store_is_copy}
+use Rattle.kdcfile_copies.specs.Copies.{AtMost, Below, IsChosen, IsCopyOf, IsNoCopy, bare, with_sequence}
+use Rattle.kdcfile_copies.specs.CopiesLaws.{one_is_chosen, one_meaning_of_copies, store_is_copy}
 use Rattle.kdcfile_copies.specs.Finding.{IsLoaded}
 use Rattle.kdcfile_double.specs.ChosenLaws.{below_at_most, copy_at_most, copy_below, none_is_below}
 use Rattle.kdcfile_double.specs.Twice.{AreSame}
@@ -34,14 +35,17 @@ second_counts q a b is has below = record {
   has = has;
   behind = λ second. below;
   alike = λ same half. absurd cc;
+  unlike = λ differs copy. absurd (omega (arith, below q.store.identity q.sequence (bare q.store.content) copy));
 }
 
-pub first_counts : (p : LoadedCopy) (alike : Bool) (a b : List ℕ) → IsLoaded p → HasFile p.store a → AtMost p.sequence b → (IsTrue alike → IsCopyOf p.store.identity p.sequence (bare p.store.content) b) → AreCounted (record { copy = p; home = First; alike = alike }) a b
-first_counts p alike a b is has most same = record {
+pub first_counts : (p : LoadedCopy) (alike : Bool) (a b : List ℕ) → IsLoaded p → HasFile p.store a → AtMost p.sequence b → (IsTrue alike → IsCopyOf p.store.identity p.sequence (bare p.store.content) b) → (alike ≡ false → IsCopyOf p.store.identity p.sequence (bare p.store.content) b → ⊥)
+    → AreCounted (record { copy = p; home = First; alike = alike }) a b
+first_counts p alike a b is has most same differs = record {
   chosen = inl (loaded_copy p a is has, most);
   has = has;
   behind = λ second. absurd cc;
   alike = by;
+  unlike = differs;
 }
   where
     by : IsTrue alike → (half : Half) → IsCopyOf p.store.identity p.sequence (bare p.store.content) (file_of half a b)
@@ -57,11 +61,18 @@ module _ (p q : LoadedCopy) (a b : List ℕ) (is : IsLoaded p) (too : IsLoaded q
       subst (λ (i : Identity). IsCopyOf i p.sequence (bare p.store.content) b) (sym same.identity)
       (subst (λ (n : ℕ). IsCopyOf q.store.identity n (bare p.store.content) b) (sym same.sequence) (subst (λ (x : Content). IsCopyOf q.store.identity q.sequence x b) (ap bare (sym same.content)) (loaded_copy q b too holds)))
 
-  pub equal_counts : (alike : Bool) → q.sequence ≤ p.sequence → (IsTrue alike → AreSame p q) → AreCounted (record { copy = p; home = First; alike = alike }) a b
-  equal_counts alike least same = first_counts p alike a b is has (copy_at_most q.store.identity q.sequence p.sequence (bare q.store.content) b (loaded_copy q b too holds) least) (λ yes. same_copy (same yes))
+  -- the second file is the same copy only where both were read as the same
+  same_read : IsCopyOf p.store.identity p.sequence (bare p.store.content) b → AreSame p q
+  same_read copy =
+      let one = one_meaning_of_copies p.store.identity q.store.identity p.sequence q.sequence (bare p.store.content) (bare q.store.content) b copy (loaded_copy q b too holds) in
+      record { sequence = one.1; identity = one.0; content = is.keeps.content ∙ (λ i. with_sequence (one.1 i) (one.2 i)) ∙ sym too.keeps.content }
+
+  pub equal_counts : (alike : Bool) → q.sequence ≤ p.sequence → (IsTrue alike → AreSame p q) → (alike ≡ false → AreSame p q → ⊥) → AreCounted (record { copy = p; home = First; alike = alike }) a b
+  equal_counts alike least same differs =
+      first_counts p alike a b is has (copy_at_most q.store.identity q.sequence p.sequence (bare q.store.content) b (loaded_copy q b too holds) least) (λ yes. same_copy (same yes)) (λ no copy. differs no (same_read copy))
 
 pub first_alone : (p : LoadedCopy) (a b : List ℕ) → IsLoaded p → HasFile p.store a → IsNoCopy b → AreCounted (record { copy = p; home = First; alike = false }) a b
-first_alone p a b is has none = first_counts p false a b is has (below_at_most p.sequence b (none_is_below p.sequence b none)) (λ yes. absurd cc)
+first_alone p a b is has none = first_counts p false a b is has (below_at_most p.sequence b (none_is_below p.sequence b none)) (λ yes. absurd cc) (λ no. none p.store.identity p.sequence (bare p.store.content))
 
 pub second_alone : (q : LoadedCopy) (a b : List ℕ) → IsLoaded q → HasFile q.store b → IsNoCopy a → AreCounted (record { copy = q; home = Second; alike = false }) a b
 second_alone q a b is has none = second_counts q a b is has (none_is_below q.sequence a none)
@@ -76,6 +87,15 @@ as_tables from k n bytes kept is copy =
     let content : bare from.copy.store.content ≡ content_of_tables k.tables = ap (λ (s : Paged). bare s.content) (sym kept.store) ∙ kept.records in
     subst (λ (i : Identity). IsCopyOf i n (content_of_tables k.tables) bytes) made
     (subst (λ (m : ℕ). IsCopyOf from.copy.store.identity m (content_of_tables k.tables) bytes) numbered (subst (λ (x : Content). IsCopyOf from.copy.store.identity from.copy.sequence x bytes) content copy))
+
+-- and back
+as_counted : (from : Counted) (k : Kept) (n : ℕ) (bytes : List ℕ) → IsKeptIn k from → k.sequence ≡ Some n → IsCopyOf k.file.store.identity n (content_of_tables k.tables) bytes → IsCopyOf from.copy.store.identity from.copy.sequence (bare from.copy.store.content) bytes
+as_counted from k n bytes kept is copy =
+    let made : from.copy.store.identity ≡ k.file.store.identity = ap (λ (s : Paged). s.identity) (sym kept.store) in
+    let numbered : from.copy.sequence ≡ n = some_is from.copy.sequence n (sym kept.sequence ∙ is) in
+    let content : bare from.copy.store.content ≡ content_of_tables k.tables = ap (λ (s : Paged). bare s.content) (sym kept.store) ∙ kept.records in
+    subst (λ (i : Identity). IsCopyOf i from.copy.sequence (bare from.copy.store.content) bytes) (sym made)
+    (subst (λ (m : ℕ). IsCopyOf k.file.store.identity m (bare from.copy.store.content) bytes) (sym numbered) (subst (λ (x : Content). IsCopyOf k.file.store.identity n x bytes) (sym content) copy))
 
 as_chosen : (from : Counted) (k : Kept) (a b : List ℕ) → IsKeptIn k from → AreCounted from a b → IsChosen k.file.store.identity from.copy.sequence (content_of_tables k.tables) a b
 as_chosen from k a b kept counted =
@@ -110,6 +130,7 @@ module _ (from : Counted) (k : Kept) (a b : List ℕ) (loaded : IsLoaded from.co
     has = there;
     source = source;
     alike = λ yes n is half. as_tables from k n (file_of half a b) kept is (counted.alike (subst IsTrue kept.alike yes) half);
+    unlike = λ no n is copy. counted.unlike (sym kept.alike ∙ no) (subst (λ (h : Half). IsCopyOf from.copy.store.identity from.copy.sequence (bare from.copy.store.content) (file_of (other h) a b)) kept.home (as_counted from k n (file_of (other k.home) a b) kept is copy));
   }
 
 -- ---- files of no application

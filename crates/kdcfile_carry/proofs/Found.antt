@@ -1,5 +1,5 @@
 -- What was found in two files is what the files are.
-use Rattle.std.specs.Prelude.{◌≡◌, ℕ, List, is_some, true}
+use Rattle.std.specs.Prelude.{◌≡◌, ℕ, List}
 use Rattle.std.proofs.Common.{inl, inr, sym, subst}
 use Rattle.kd_device.specs.Twin.{Both}
 use Rattle.application_types.specs.Generation.{Generated}
@@ -12,7 +12,7 @@ use Rattle.kdcfile_carry.specs.FilesLaws.{one_meaning_of_files}
 use Rattle.kdcfile_carry.specs.Leaving.{StaysWithin}
 use Rattle.kdcfile_carry.specs.LeavingLaws.{rests_stay, stays_then}
 use Rattle.kdcfile_carry.specs.Promise.{IsRefusal, IsSpent}
-use Rattle.kdcfile_carry.specs.Ways.{AreRefusedAs, AreSpent, IsUpToDate, files_after}
+use Rattle.kdcfile_carry.specs.Ways.{AreOwn, AreRefusedAs, AreSpent, IsUpToDate, files_after}
 
 -- only reading was done
 pub reading_stays : (a b : Both) (la lb : ℕ → List ℕ → List ℕ → List ℕ → Type 0) (f h : Files) → BothRest a la → RestsBoth a b la lb → AreFiles f a.first.holds a.second.holds → StaysWithin (AreEither f h) a b la lb
@@ -28,14 +28,14 @@ module _ (g : Generated) (fingerprint : List ℕ) (f : Files) where
         inl (
           own.0,
           record {
-            own_texts = λ h too. subst (λ (u : Files). u.identity.fingerprint ≡ fingerprint) (same_as h too) own.1;
+            own_texts = λ h too. subst (λ (u : Files). AreOwn g fingerprint u) (same_as h too) own.1;
             unsuited = λ h too up. own.2 (subst (λ (u : Files). IsUpToDate g fingerprint u) (sym (same_as h too)) up);
           },
         )
     refusal why (inr other) = inr (record { files = f; are = are; differs = other.0; judged = other.1 })
 
-    pub spent_are : (n : ℕ) → is_some g.double ≡ true → IsSpent g fingerprint f n → AreSpent g fingerprint a b n
-    spent_are n two h = record { files = f; are = are; differs = h.differs; judged = h.judged; two = two; sequence = h.sequence; great = h.great }
+    pub spent_are : (n : ℕ) → IsSpent g fingerprint f n → AreSpent g fingerprint a b n
+    spent_are n h = record { files = f; are = are; differs = h.differs; judged = h.judged; two = h.two; sequence = h.sequence; great = h.great }
 
 -- files that were found, and then kept or carried
 pub found_then : (g : Generated) (fingerprint : List ℕ) (k f : Files) (a b e : Both) (la lb le : ℕ → List ℕ → List ℕ → List ℕ → Type 0) → BothRest a la → RestsBoth a b la lb → AreFiles k a.first.holds a.second.holds → AreFiles f a.first.holds a.second.holds

@@ -1,4 +1,5 @@
 pub mod Anew
+pub mod Backed
 pub mod Changing
 pub mod Counting
 pub mod FirstUsed
@@ -6,4 +7,5 @@ pub mod Found
 pub mod Gone
 pub mod HalfUsed
 pub mod NewTables
+pub mod Shutting
 pub mod Steps

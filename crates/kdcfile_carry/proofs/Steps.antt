@@ -5,14 +5,18 @@ use Rattle.kd_device.specs.Twin.{Both, other}
 use Rattle.kd_device.specs.declared.half.Half.{Half}
 use Rattle.kd_device.specs.declared.half.Half.TheVariants.{First, Second}
 use Rattle.application_types.specs.Generation.{Generated}
+use Rattle.record_codec.specs.Records.{content_of_tables}
+use Rattle.kdcfile_copies.specs.Copies.{IsCopyOf}
 use Rattle.kdcfile_double.specs.MakingLaws.{RestsBoth, rests_then, rose_then}
 use Rattle.kdcfile_double.specs.Twice.{NoneRose, RoseAt, SameFaultsAt}
 use Rattle.kdcfile_carry.specs.declared.losing.Losses.{Losses}
+use Rattle.kdcfile_carry.specs.declared.outcome.Alike.{Alike}
+use Rattle.kdcfile_carry.specs.declared.outcome.Alike.TheVariants.{Already, Mended, Lost}
 use Rattle.kdcfile_carry.specs.declared.outcome.Carried.{Carried}
 use Rattle.kdcfile_carry.specs.declared.outcome.Carried.TheVariants.{UpToDate, Stand, WouldLose}
 use Rattle.kdcfile_carry.specs.Doing.{FailsAlone, RoseOnOne}
 use Rattle.kdcfile_carry.specs.Files.{Files}
-use Rattle.kdcfile_carry.specs.Promise.{Fails, Outcome}
+use Rattle.kdcfile_carry.specs.Promise.{Fails, IsBehind, Outcome, WereAlike, lost_of}
 
 -- ---- both files are as they were
 
@@ -37,13 +41,30 @@ alone_then lost a b e none alone = record {
   line = alone.line ∙ none.line_same;
 }
 
+-- no call failed
+pub none_alone : (a b : Both) → NoneRose a b → FailsAlone None a b
+none_alone a b none = record { spared = λ half no. by half; failed = λ half is. absurd cc; line = none.line_same }
+  where
+    by : (half : Half) → SameFaultsAt half a b
+    by First = none.first_same
+    by Second = none.second_same
+
 pub fails_then : (o : Carried) (a b e : Both) → NoneRose a b → Fails o b e → Fails o a e
-fails_then (UpToDate lost) a b e none h = alone_then lost a b e none h
+fails_then (UpToDate alike) a b e none h = alone_then (lost_of alike) a b e none h
 fails_then (Stand gone lost) a b e none h = alone_then lost a b e none h
 fails_then (WouldLose rows) a b e none h = alone_then None a b e none h
 
+behind_then : (f : Files) (half : Half) (a b : Both) (la lb : ℕ → List ℕ → List ℕ → List ℕ → Type 0) → RestsBoth a b la lb → IsBehind f half b → IsBehind f half a
+behind_then f First a b la lb rests behind n is copy = behind n is (subst (λ (l : List ℕ). IsCopyOf f.identity n (content_of_tables f.tables) l) (sym rests.files.first_holds) copy)
+behind_then f Second a b la lb rests behind n is copy = behind n is (subst (λ (l : List ℕ). IsCopyOf f.identity n (content_of_tables f.tables) l) (sym rests.files.second_holds) copy)
+
+alike_then : (f : Files) (alike : Alike) (a b e : Both) (la lb le : ℕ → List ℕ → List ℕ → List ℕ → Type 0) → RestsBoth a b la lb → WereAlike f alike b e lb le → WereAlike f alike a e la le
+alike_then f Already a b e la lb le rests h = rests_then a b la lb rests e le h
+alike_then f (Mended half) a b e la lb le rests h = behind_then f half a b la lb rests h
+alike_then f (Lost half) a b e la lb le rests h = behind_then f half a b la lb rests h
+
 pub outcome_then : (g : Generated) (fingerprint : List ℕ) (losses : Losses) (f : Files) (o : Carried) (a b e : Both) (la lb le : ℕ → List ℕ → List ℕ → List ℕ → Type 0) → RestsBoth a b la lb → Outcome g fingerprint losses f o b e lb le → Outcome g fingerprint losses f o a e la le
-outcome_then g fingerprint losses f (UpToDate lost) a b e la lb le rests h = h
+outcome_then g fingerprint losses f (UpToDate alike) a b e la lb le rests h = (h.0, h.1, alike_then f alike a b e la lb le rests h.2)
 outcome_then g fingerprint losses f (Stand gone lost) a b e la lb le rests h = h
 outcome_then g fingerprint losses f (WouldLose rows) a b e la lb le rests h = (h.0, h.1, h.2, h.3, rests_then a b la lb rests e le h.4)
 

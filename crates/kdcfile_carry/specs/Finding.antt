@@ -1,5 +1,6 @@
 -- The copy that counts of two files, and the tables that it keeps.
-use Rattle.std.specs.Prelude.{◌≡◌, ℕ, IsTrue, List, Some}
+use Rattle.std.specs.Prelude.{◌≡◌, ℕ, false, IsTrue, List, Some}
+use Rattle.kd_device.specs.Twin.{other}
 use Rattle.kd_device.specs.declared.half.Half.{Half}
 use Rattle.kd_device.specs.declared.half.Half.TheVariants.{Second}
 use Rattle.kdcs_types.specs.Tables.{TableRows}
@@ -17,6 +18,7 @@ pub record AreCounted (k : Counted) (a b : List ℕ) : Type 0 where
   pub has : HasFile k.copy.store (file_of k.home a b)
   pub behind : k.home ≡ Second → Below k.copy.sequence a
   pub alike : IsTrue k.alike → (half : Half) → IsCopyOf k.copy.store.identity k.copy.sequence (bare k.copy.store.content) (file_of half a b)
+  pub unlike : k.alike ≡ false → IsCopyOf k.copy.store.identity k.copy.sequence (bare k.copy.store.content) (file_of (other k.home) a b) → ⊥
 
 -- it keeps no tables
 abbrev pub KeepsNoTables : Counted → Type 0

@@ -1,5 +1,5 @@
 -- What was found in two files, and what each of them is beside the other one.
-use Rattle.std.specs.Prelude.{◌≡◌, ◌<◌, ◌^◌, ℕ, IsTrue, List, Option, Some, None, IfSome}
+use Rattle.std.specs.Prelude.{◌≡◌, ◌<◌, ◌^◌, ℕ, false, IsTrue, List, Option, Some, None, IfSome}
 use Rattle.kd_device.specs.Twin.{other}
 use Rattle.kd_device.specs.declared.half.Half.{Half}
 use Rattle.kd_device.specs.declared.half.Half.TheVariants.{First}
@@ -53,3 +53,4 @@ pub record IsIn (k : Kept) (c d : List ℕ) : Type 0 where
   pub has : HasFile k.file.store (file_of k.home c d)
   pub source : (n : ℕ) → k.sequence ≡ Some n → IsSource k.home k.file.store.identity n k.tables c d
   pub alike : IsTrue k.alike → (n : ℕ) → k.sequence ≡ Some n → (half : Half) → IsCopyOf k.file.store.identity n (content_of_tables k.tables) (file_of half c d)
+  pub unlike : k.alike ≡ false → (n : ℕ) → k.sequence ≡ Some n → IsCopyOf k.file.store.identity n (content_of_tables k.tables) (file_of (other k.home) c d) → ⊥

@@ -1,3 +1,4 @@
+pub mod Backing
 pub mod Causes
 pub mod Doing
 pub mod Files

@@ -1,5 +1,5 @@
 -- Which files are carried to a new generation, and what they are then.
-use Rattle.std.specs.Prelude.{◌≡◌, ⊤, ◌⊎◌, ◌≤◌, ℕ, ◌+◌, ◌-◌, Bool, true, false, List, Option, Some, None, IfSome, is_some, nat_le, Result, Ok, Err}
+use Rattle.std.specs.Prelude.{◌≡◌, ⊤, ◌⊎◌, ◌≤◌, ℕ, ◌+◌, ◌-◌, Bool, true, false, not, ◌&&◌, List, Option, Some, None, IfSome, is_some, nat_le, Result, Ok, Err}
 use Rattle.kd_records.specs.Identity.{Identity}
 use Rattle.application_types.specs.Generation.{Generated}
 use Rattle.laws_of_states.specs.Suits.{Suits}
@@ -34,6 +34,11 @@ carried_files g fingerprint f = record { identity = made_with g fingerprint; tab
 
 -- ---- which files are carried
 
+-- the files are of these texts, and two copies or a file by itself as these ask
+pub record AreOwn (g : Generated) (fingerprint : List ℕ) (f : Files) : Type 0 where
+  pub print : f.identity.fingerprint ≡ fingerprint
+  pub as_asked : is_some f.sequence ≡ is_some g.double
+
 -- the files are of these texts, as these ask for them, and the tables suit: nothing is to be carried
 pub record IsUpToDate (g : Generated) (fingerprint : List ℕ) (f : Files) : Type 0 where
   pub identity_is : f.identity ≡ made_with g fingerprint
@@ -56,13 +61,13 @@ room_by false (Some n) pages pgpool = else_fault (nat_le pages pgpool) (SmallerP
 room_by false None pages pgpool = Ok tt
 room_by true s pages pgpool = Ok tt
 
--- how files of other texts are judged
+-- how files of other texts, or of another shape, are judged
 abbrev pub judgement : Generated → Files → Result ⊤ UpdateError
 judgement g f = then_judged (judged g f.identity.blksize (pool_by f.sequence f.identity.pages) f.tables (carried g f.tables)) (room_by (is_some g.double) f.sequence f.identity.pages g.limits.pgpool)
 
--- the files are of other texts, and their tables may be carried
+-- the files are of other texts or not of the shape that these ask for, and their tables may be carried
 pub record MayCarry (g : Generated) (fingerprint : List ℕ) (f : Files) : Type 0 where
-  pub differs : f.identity.fingerprint ≡ fingerprint → ⊥
+  pub differs : AreOwn g fingerprint f → ⊥
   pub judged : judgement g f ≡ Ok tt
   pub small : IfSome (next_sequence (is_some g.double) f.sequence) (λ n. n ≤ last_sequence)
 
@@ -70,26 +75,31 @@ pub record MayCarry (g : Generated) (fingerprint : List ℕ) (f : Files) : Type 
 abbrev pub IsTaken : Generated → (fingerprint : List ℕ) → Files → Type 0
 IsTaken g fingerprint f = IsUpToDate g fingerprint f ⊎ MayCarry g fingerprint f
 
--- what the files are after the call: the same where they are of these texts
-abbrev pub files_by : (same : Bool) → Generated → (fingerprint : List ℕ) → Files → Files
+-- two copies or a file by itself, as is asked
+abbrev pub is_asked : (double two : Bool) → Bool
+is_asked true two = two
+is_asked false two = not two
+
+-- what the files are after the call: the same where they are of these texts and of their shape
+abbrev pub files_by : (own : Bool) → Generated → (fingerprint : List ℕ) → Files → Files
 files_by true g fingerprint f = f
 files_by false g fingerprint f = carried_files g fingerprint f
 
 abbrev pub files_after : Generated → (fingerprint : List ℕ) → Files → Files
-files_after g fingerprint f = files_by (is_same_print f.identity.fingerprint fingerprint) g fingerprint f
+files_after g fingerprint f = files_by (is_same_print f.identity.fingerprint fingerprint && is_asked (is_some g.double) (is_some f.sequence)) g fingerprint f
 
 -- ---- which are refused
 
--- the two files are those of no application, or of these texts and not as these ask for them
+-- the two files are those of no application, or of these texts and of their shape, and not as these ask for them
 pub record HaveNoFilesFor (g : Generated) (fingerprint a b : List ℕ) : Type 0 where
-  pub own_texts : (f : Files) → AreFiles f a b → f.identity.fingerprint ≡ fingerprint
+  pub own_texts : (f : Files) → AreFiles f a b → AreOwn g fingerprint f
   pub unsuited : (f : Files) → AreFiles f a b → IsUpToDate g fingerprint f → ⊥
 
--- they are those of other texts, and judged so
+-- they are those of other texts or of another shape, and judged so
 pub record AreJudgedSo (g : Generated) (fingerprint a b : List ℕ) (why : UpdateError) : Type 0 where
   pub files : Files
   pub are : AreFiles files a b
-  pub differs : files.identity.fingerprint ≡ fingerprint → ⊥
+  pub differs : AreOwn g fingerprint files → ⊥
   pub judged : judgement g files ≡ Err why
 
 abbrev pub AreRefusedAs : Generated → (fingerprint a b : List ℕ) → UpdateError → Type 0
@@ -99,7 +109,7 @@ AreRefusedAs g fingerprint a b why = ((why ≡ NotKdcfile) × HaveNoFilesFor g f
 pub record AreSpent (g : Generated) (fingerprint a b : List ℕ) (n : ℕ) : Type 0 where
   pub files : Files
   pub are : AreFiles files a b
-  pub differs : files.identity.fingerprint ≡ fingerprint → ⊥
+  pub differs : AreOwn g fingerprint files → ⊥
   pub judged : judgement g files ≡ Ok tt
   pub two : is_some g.double ≡ true
   pub sequence : files.sequence ≡ Some n

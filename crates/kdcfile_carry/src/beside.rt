@@ -13,8 +13,8 @@ use kd_device::{Half, Twin};
 use kdcfile_copies::kdcfile_mending::{CopyError, copy_over};
 use std::alloc::Global;
 
-// The other half.
-fn other(half: Half) -> Half
+/// The other half.
+pub(crate) fn other(half: Half) -> Half
     ensures { result ≡ other half }
 {
     match half {

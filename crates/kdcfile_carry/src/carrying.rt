@@ -1,18 +1,20 @@
-//! Two files are carried: the first one is changed at once, by one commit, and then the second one is made alike.
-ghost use Rattle.std.specs.Prelude.{◌≡◌, ℕ, IsTrue, IfOk, OnOk, IsErrOf, Some, is_some, true};
+//! Two files are carried: the first one is changed at once, by one commit. A second copy is shut before, where the texts
+//! ask for one file, and else the second file is made alike afterwards.
+ghost use Rattle.std.specs.Prelude.{◌≡◌, ℕ, IsTrue, IfOk, OnOk, IsErrOf, Some, is_some, false, true};
 ghost use Rattle.kd_device.specs.declared.half.Half.TheVariants.{First, Second};
-ghost use Rattle.kdcfile_store.specs.Paged.{HasFile};
 ghost use Rattle.kdcfile_double.specs.{Twice.{FrameBoth, NoneRose, RoseAt}, Mended.{BothRest}};
 ghost use Rattle.kdcfile_update.specs.Carrying.{carried};
 ghost use Rattle.kdcfile_update.specs.declared.kd_update.error.UpdateError.{UpdateError as Cause};
 ghost use Rattle.record_codec.specs.Records.{content_of_tables};
-ghost use Rattle.kdcfile_carry.specs.{Doing.{AreEither, FailsAlone, IsReady, RoseOnOne}, Files.{AreFiles}, Keeping.{IsIn, IsKnown, IsSource, content_by, files_in}, Leaving.{EachStands, LeavesFiles, StaysWithin}, Ways.{MayCarry, carried_files, made_with, next_sequence}};
+ghost use Rattle.kdcfile_carry.specs.{Doing.{AreEither, FailsAlone, IsOnFirst, IsReady, RoseOnOne}, Files.{AreFiles}, Keeping.{IsIn, IsKnown, IsSource, content_by, files_in}, Leaving.{EachStands, LeavesFiles, StaysWithin}, Promise.{WereAlike, lost_of}, Ways.{MayCarry, carried_files, made_with, next_sequence}};
 
-use crate::beside::write_anew;
+use crate::beside::{other, write_anew};
 use crate::error::FilesError;
 use crate::finding::Kept;
 use crate::first_file::replace_first;
+use crate::gate::shut_second;
 use crate::new_tables::new_limits;
+use crate::outcome::Alike;
 use application_types::generation::Generation;
 use kd_device::{Half, Twin};
 use kd_records::Content;
@@ -25,9 +27,7 @@ fn first_anew<T: Twin>(alloc: Global, twin: &mut T, kept: &Kept) -> Result<(), F
     requires is_in { IsTrue (T.both twin.old).told → IsIn kept.now (T.both twin.old).first.holds (T.both twin.old).second.holds }
     requires at_rest { IsTrue (T.both twin.old).told → BothRest (T.both twin.old) (T.leaves twin.old) }
     ensures any_moment { IsTrue (T.both twin.old).told → StaysWithin (AreFiles (files_in kept.now)) (T.both twin.old) (T.both twin.new) (T.leaves twin.old) (T.leaves twin.new) }
-    ensures has { OnOk result (IsTrue (T.both twin.old).told → HasFile kept.now.file.store (T.both twin.new).first.holds) }
-    ensures source { OnOk result (IsTrue (T.both twin.old).told → (n : ℕ) → kept.now.sequence ≡ Some n → IsSource First kept.now.file.store.identity n kept.now.tables (T.both twin.new).first.holds (T.both twin.new).second.holds) }
-    ensures files { OnOk result (IsTrue (T.both twin.old).told → AreFiles (files_in kept.now) (T.both twin.new).first.holds (T.both twin.new).second.holds) }
+    ensures on_first { OnOk result (IsTrue (T.both twin.old).told → IsOnFirst kept.now (T.both twin.new).first.holds (T.both twin.new).second.holds) }
     ensures at_rest { OnOk result (IsTrue (T.both twin.old).told → BothRest (T.both twin.new) (T.leaves twin.new)) }
     ensures told { (IsErrOf result FilesError.TwoMeanings → ⊥) × ((why : Cause) → IsErrOf result (FilesError.Refused why) → ⊥) × ((n : ℕ) → IsErrOf result (FilesError.Spent n) → ⊥) }
     ensures failed { IsErrOf result FilesError.Failed → RoseOnOne (T.both twin.old) (T.both twin.new) }
@@ -47,9 +47,7 @@ fn first_counts<T: Twin>(alloc: Global, twin: &mut T, kept: &Kept) -> Result<(),
     requires is_in { IsTrue (T.both twin.old).told → IsIn kept.now (T.both twin.old).first.holds (T.both twin.old).second.holds }
     requires at_rest { IsTrue (T.both twin.old).told → BothRest (T.both twin.old) (T.leaves twin.old) }
     ensures any_moment { IsTrue (T.both twin.old).told → StaysWithin (AreFiles (files_in kept.now)) (T.both twin.old) (T.both twin.new) (T.leaves twin.old) (T.leaves twin.new) }
-    ensures has { OnOk result (IsTrue (T.both twin.old).told → HasFile kept.now.file.store (T.both twin.new).first.holds) }
-    ensures source { OnOk result (IsTrue (T.both twin.old).told → (n : ℕ) → kept.now.sequence ≡ Some n → IsSource First kept.now.file.store.identity n kept.now.tables (T.both twin.new).first.holds (T.both twin.new).second.holds) }
-    ensures files { OnOk result (IsTrue (T.both twin.old).told → AreFiles (files_in kept.now) (T.both twin.new).first.holds (T.both twin.new).second.holds) }
+    ensures on_first { OnOk result (IsTrue (T.both twin.old).told → IsOnFirst kept.now (T.both twin.new).first.holds (T.both twin.new).second.holds) }
     ensures at_rest { OnOk result (IsTrue (T.both twin.old).told → BothRest (T.both twin.new) (T.leaves twin.new)) }
     ensures told { (IsErrOf result FilesError.TwoMeanings → ⊥) × ((why : Cause) → IsErrOf result (FilesError.Refused why) → ⊥) × ((n : ℕ) → IsErrOf result (FilesError.Spent n) → ⊥) }
     ensures failed { IsErrOf result FilesError.Failed → RoseOnOne (T.both twin.old) (T.both twin.new) }
@@ -62,6 +60,55 @@ fn first_counts<T: Twin>(alloc: Global, twin: &mut T, kept: &Kept) -> Result<(),
     }
 }
 
+// The second file may stay: it is no copy, or the texts ask for two.
+fn second_may_stay(generation: &Generation, kept: &Kept) -> bool
+    ensures { result ≡ true → is_some generation.now.double ≡ false → (n : ℕ) → kept.now.sequence ≡ Some n → ⊥ }
+{
+    generation.double().is_some() || kept.sequence.is_none()
+}
+
+// The second file is such that the first one, which has what was found, may be changed beside it: a copy is shut where the
+// texts ask for one file, while the first file is the old copy still, and counts alone.
+fn make_ready<T: Twin>(twin: &mut T, generation: &Generation, kept: &Kept) -> Result<(), FilesError>
+    requires on_first { IsTrue (T.both twin.old).told → IsOnFirst kept.now (T.both twin.old).first.holds (T.both twin.old).second.holds }
+    requires at_rest { IsTrue (T.both twin.old).told → BothRest (T.both twin.old) (T.leaves twin.old) }
+    ensures any_moment { IsTrue (T.both twin.old).told → StaysWithin (AreFiles (files_in kept.now)) (T.both twin.old) (T.both twin.new) (T.leaves twin.old) (T.leaves twin.new) }
+    ensures ready { OnOk result (IsTrue (T.both twin.old).told → IsReady kept.now (is_some generation.now.double) (T.both twin.new).first.holds (T.both twin.new).second.holds) }
+    ensures at_rest { OnOk result (IsTrue (T.both twin.old).told → BothRest (T.both twin.new) (T.leaves twin.new)) }
+    ensures told { (IsErrOf result FilesError.TwoMeanings → ⊥) × ((why : Cause) → IsErrOf result (FilesError.Refused why) → ⊥) × ((n : ℕ) → IsErrOf result (FilesError.Spent n) → ⊥) }
+    ensures failed { IsErrOf result FilesError.Failed → RoseAt Second (T.both twin.old) (T.both twin.new) }
+    ensures fine { OnOk result (NoneRose (T.both twin.old) (T.both twin.new)) }
+    ensures frame { FrameBoth (T.both twin.old) (T.both twin.new) }
+{
+    if second_may_stay(generation, kept) {
+        return Ok(());
+    }
+    shut_second(twin)?;
+    Ok(())
+}
+
+// The first file has the copy that counts, and may be changed.
+fn prepare<T: Twin>(
+    alloc: Global,
+    twin: &mut T,
+    generation: &Generation,
+    kept: &Kept,
+) -> Result<(), FilesError>
+    requires known { IsKnown kept.now }
+    requires is_in { IsTrue (T.both twin.old).told → IsIn kept.now (T.both twin.old).first.holds (T.both twin.old).second.holds }
+    requires at_rest { IsTrue (T.both twin.old).told → BothRest (T.both twin.old) (T.leaves twin.old) }
+    ensures any_moment { IsTrue (T.both twin.old).told → StaysWithin (AreFiles (files_in kept.now)) (T.both twin.old) (T.both twin.new) (T.leaves twin.old) (T.leaves twin.new) }
+    ensures ready { OnOk result (IsTrue (T.both twin.old).told → IsReady kept.now (is_some generation.now.double) (T.both twin.new).first.holds (T.both twin.new).second.holds) }
+    ensures at_rest { OnOk result (IsTrue (T.both twin.old).told → BothRest (T.both twin.new) (T.leaves twin.new)) }
+    ensures told { (IsErrOf result FilesError.TwoMeanings → ⊥) × ((why : Cause) → IsErrOf result (FilesError.Refused why) → ⊥) × ((n : ℕ) → IsErrOf result (FilesError.Spent n) → ⊥) }
+    ensures failed { IsErrOf result FilesError.Failed → RoseOnOne (T.both twin.old) (T.both twin.new) }
+    ensures fine { OnOk result (NoneRose (T.both twin.old) (T.both twin.new)) }
+    ensures frame { FrameBoth (T.both twin.old) (T.both twin.new) }
+{
+    first_counts(alloc, twin, kept)?;
+    make_ready(twin, generation, kept)
+}
+
 // The first file, which is ready, is changed by one commit.
 fn change<T: Twin>(
     alloc: Global,
@@ -72,7 +119,6 @@ fn change<T: Twin>(
     content: Content,
 ) -> Result<(), FilesError>
     requires known { IsKnown kept.old }
-    requires double { is_some generation.now.double ≡ true }
     requires may { MayCarry generation.now fingerprint.now (files_in kept.old) }
     requires content { content ≡ content_by (next_sequence (is_some generation.now.double) kept.old.sequence) (content_of_tables (carried generation.now kept.old.tables)) }
     requires ready { IsTrue (T.both twin.old).told → IsReady kept.old (is_some generation.now.double) (T.both twin.old).first.holds (T.both twin.old).second.holds }
@@ -98,7 +144,7 @@ fn change<T: Twin>(
     Ok(())
 }
 
-// The first file is changed, once it has the copy that counts.
+// The first file is changed, once it may be.
 fn change_first<T: Twin>(
     alloc: Global,
     twin: &mut T,
@@ -108,7 +154,6 @@ fn change_first<T: Twin>(
     content: Content,
 ) -> Result<(), FilesError>
     requires known { IsKnown kept.old }
-    requires double { is_some generation.now.double ≡ true }
     requires may { MayCarry generation.now fingerprint.now (files_in kept.old) }
     requires content { content ≡ content_by (next_sequence (is_some generation.now.double) kept.old.sequence) (content_of_tables (carried generation.now kept.old.tables)) }
     requires is_in { IsTrue (T.both twin.old).told → IsIn kept.old (T.both twin.old).first.holds (T.both twin.old).second.holds }
@@ -122,11 +167,11 @@ fn change_first<T: Twin>(
     ensures fine { OnOk result (NoneRose (T.both twin.old) (T.both twin.new)) }
     ensures frame { FrameBoth (T.both twin.old) (T.both twin.new) }
 {
-    first_counts(alloc, twin, kept)?;
+    prepare(alloc, twin, generation, kept)?;
     change(alloc, twin, generation, fingerprint, kept, content)
 }
 
-/// Carries the files to this content, as two copies, and answers which half is lost. At every stop the files are the old
+/// Carries the files to this content, as the texts ask, and answers which half is lost. At every stop the files are the old
 /// ones or the new ones.
 pub(crate) fn carry_over<T: Twin>(
     alloc: Global,
@@ -137,7 +182,6 @@ pub(crate) fn carry_over<T: Twin>(
     content: Content,
 ) -> Result<Option<Half>, FilesError>
     requires known { IsKnown kept.old }
-    requires double { is_some generation.now.double ≡ true }
     requires may { MayCarry generation.now fingerprint.now (files_in kept.old) }
     requires content { content ≡ content_by (next_sequence (is_some generation.now.double) kept.old.sequence) (content_of_tables (carried generation.now kept.old.tables)) }
     requires is_in { IsTrue (T.both twin.old).told → IsIn kept.old (T.both twin.old).first.holds (T.both twin.old).second.holds }
@@ -151,27 +195,35 @@ pub(crate) fn carry_over<T: Twin>(
     ensures frame { FrameBoth (T.both twin.old) (T.both twin.new) }
 {
     change_first(alloc, twin, generation, fingerprint, kept, content)?;
-    write_anew(alloc, twin, Half::First)
+    match generation.double() {
+        Some(_) => write_anew(alloc, twin, Half::First),
+        None => Ok(None),
+    }
 }
 
-/// Makes the copies alike, where the files are two, and answers which half is lost.
+/// Makes the copies alike, where the files are two, and answers how.
 pub(crate) fn make_alike<T: Twin>(
     alloc: Global,
     twin: &mut T,
     kept: &Kept,
-) -> Result<Option<Half>, FilesError>
+) -> Result<Alike, FilesError>
     requires known { IsKnown kept.now }
     requires is_in { IsTrue (T.both twin.old).told → IsIn kept.now (T.both twin.old).first.holds (T.both twin.old).second.holds }
     requires at_rest { IsTrue (T.both twin.old).told → BothRest (T.both twin.old) (T.leaves twin.old) }
     ensures any_moment { IsTrue (T.both twin.old).told → StaysWithin (AreFiles (files_in kept.now)) (T.both twin.old) (T.both twin.new) (T.leaves twin.old) (T.leaves twin.new) }
-    ensures halves { IfOk result (λ lost. IsTrue (T.both twin.old).told → EachStands kept.now.file.store.identity kept.now.tables kept.now.sequence lost (T.both twin.new)) }
+    ensures halves { IfOk result (λ alike. IsTrue (T.both twin.old).told → EachStands kept.now.file.store.identity kept.now.tables kept.now.sequence (lost_of alike) (T.both twin.new)) }
+    ensures were { IfOk result (λ alike. IsTrue (T.both twin.old).told → WereAlike (files_in kept.now) alike (T.both twin.old) (T.both twin.new) (T.leaves twin.old) (T.leaves twin.new)) }
     ensures told { (IsErrOf result FilesError.TwoMeanings → ⊥) × ((why : Cause) → IsErrOf result (FilesError.Refused why) → ⊥) × ((n : ℕ) → IsErrOf result (FilesError.Spent n) → ⊥) }
     ensures failed { IsErrOf result FilesError.Failed → RoseOnOne (T.both twin.old) (T.both twin.new) }
-    ensures fine { IfOk result (λ lost. FailsAlone lost (T.both twin.old) (T.both twin.new)) }
+    ensures fine { IfOk result (λ alike. FailsAlone (lost_of alike) (T.both twin.old) (T.both twin.new)) }
     ensures frame { FrameBoth (T.both twin.old) (T.both twin.new) }
 {
     if kept.alike {
-        return Ok(None);
+        return Ok(Alike::Already);
     }
-    write_anew(alloc, twin, kept.home)
+    match write_anew(alloc, twin, kept.home) {
+        Ok(None) => Ok(Alike::Mended(other(kept.home))),
+        Ok(Some(half)) => Ok(Alike::Lost(half)),
+        Err(why) => Err(why),
+    }
 }

@@ -1,9 +1,9 @@
-//! The two files of an application are carried to a new generation.
-ghost use Rattle.std.specs.Prelude.{◌≡◌, ◌≤◌, ◌↔◌, ℕ, [], IsTrue, IfOk, IfSome, IfNone, IsErrOf, IsSome, Ok, Err, Some, is_some, true};
-ghost use Rattle.kdcfile_double.specs.{Opening.{last_sequence}, Twice.{FrameBoth}, MakingLaws.{RestsBoth}, Mended.{BothRest}};
+//! The two files of an application are carried to a new generation, or it is told what that would do.
+ghost use Rattle.std.specs.Prelude.{◌≡◌, ℕ, List, [], IsTrue, IfOk, IfSome, IfNone, IsErrOf};
+ghost use Rattle.application_types.specs.Generation.{Generated};
+ghost use Rattle.kdcfile_double.specs.{Twice.{FrameBoth, NoneRose}, MakingLaws.{RestsBoth}, Mended.{BothRest}};
 ghost use Rattle.kdcfile_update.specs.declared.kd_update.error.UpdateError.{UpdateError as Cause};
-ghost use Rattle.kdcfile_update.specs.declared.kd_update.error.UpdateError.TheVariants as cause;
-ghost use Rattle.kdcfile_carry.specs.{Doing.{AreEither, RoseOnOne}, Files.{AreFiles, Files, HaveTwoMeanings}, Keeping.{IsIn, IsKnown, files_in}, Leaving.{StaysWithin}, Losing.{rows_gone}, Promise.{Fails, IsRefusal, IsSpent, Outcome}, Ways.{AreRefusedAs, AreSpent, IsTaken, IsUpToDate, MayCarry, carried_files, files_after, judgement}};
+ghost use Rattle.kdcfile_carry.specs.{Doing.{AreEither, IsPlan, RoseOnOne}, Files.{AreFiles, Files, HaveTwoMeanings}, Keeping.{IsIn, IsKnown, files_in}, Leaving.{StaysWithin}, Losing.{rows_gone}, Promise.{Fails, IsRefusal, IsSpent, Outcome, WouldBe}, Ways.{AreRefusedAs, AreSpent, IsTaken, IsUpToDate, carried_files, files_after}};
 ghost use Rattle.kdcfile_carry.specs.declared.losing.Losses.{Losses as Loss};
 ghost use Rattle.kdcfile_carry.specs.declared.losing.Losses.TheVariants.{Refused};
 
@@ -11,59 +11,14 @@ use crate::carrying::{carry_over, make_alike};
 use crate::error::FilesError;
 use crate::finding::{Kept, find};
 use crate::losing::{Losses, rows_gone};
-use crate::new_tables::{new_content, new_limits, new_sequence, new_tables};
-use crate::outcome::Carried;
+use crate::new_tables::new_content;
+use crate::outcome::{Carried, Would};
+use crate::planning::{Plan, planned, would_be};
 use application_types::generation::Generation;
 use kd_base::OutOfMemory;
 use kd_device::Twin;
-use kdcfile_update::kd_update::UpdateError;
 use kdcs_types::{Row, Tables};
 use std::alloc::Global;
-use table_fit::suits;
-
-// The files are as these texts ask for them, and their tables suit.
-fn is_as_asked(generation: &Generation, kept: &Kept) -> bool
-    requires { IsSome generation.now.double }
-    ensures { IsTrue result ↔ IsUpToDate generation.now kept.now.file.store.identity.fingerprint (files_in kept.now) }
-{
-    let own = new_limits(generation, kept.file.store.fingerprint());
-    let limits = kept.file.store.limits();
-    kept.sequence.is_some()
-        && limits.pgpool == own.pgpool
-        && suits(
-            generation,
-            &kept.tables,
-            limits.blksize,
-            generation.max().pgpool,
-        )
-}
-
-// Copies of these texts are made alike.
-fn keep_files<T: Twin>(
-    alloc: Global,
-    twin: &mut T,
-    generation: &Generation,
-    kept: &Kept,
-) -> Result<Carried, FilesError>
-    requires known { IsKnown kept.now }
-    requires double { IsSome generation.now.double }
-    requires is_in { IsTrue (T.both twin.old).told → IsIn kept.now (T.both twin.old).first.holds (T.both twin.old).second.holds }
-    requires at_rest { IsTrue (T.both twin.old).told → BothRest (T.both twin.old) (T.leaves twin.old) }
-    ensures done { IfOk result (λ o. (losses : Loss) → IsTrue (T.both twin.old).told → Outcome generation.now kept.now.file.store.identity.fingerprint losses (files_in kept.now) o (T.both twin.old) (T.both twin.new) (T.leaves twin.old) (T.leaves twin.new)) }
-    ensures any_moment { IsTrue (T.both twin.old).told → StaysWithin (AreFiles (files_in kept.now)) (T.both twin.old) (T.both twin.new) (T.leaves twin.old) (T.leaves twin.new) }
-    ensures refused { (why : Cause) → IsErrOf result (FilesError.Refused why) → (why ≡ cause.NotKdcfile) × (IsUpToDate generation.now kept.now.file.store.identity.fingerprint (files_in kept.now) → ⊥) }
-    ensures still { IsTrue (T.both twin.old).told → (IsUpToDate generation.now kept.now.file.store.identity.fingerprint (files_in kept.now) → ⊥) → RestsBoth (T.both twin.old) (T.both twin.new) (T.leaves twin.old) (T.leaves twin.new) }
-    ensures told { (IsErrOf result FilesError.TwoMeanings → ⊥) × ((n : ℕ) → IsErrOf result (FilesError.Spent n) → ⊥) }
-    ensures failed { IsErrOf result FilesError.Failed → RoseOnOne (T.both twin.old) (T.both twin.new) }
-    ensures fine { IfOk result (λ o. Fails o (T.both twin.old) (T.both twin.new)) }
-    ensures frame { FrameBoth (T.both twin.old) (T.both twin.new) }
-{
-    if !is_as_asked(generation, kept) {
-        return Err(FilesError::Refused(UpdateError::NotKdcfile));
-    }
-    let lost = make_alike(alloc, twin, kept)?;
-    Ok(Carried::UpToDate(lost))
-}
 
 // The rows that would go, where they may not go and there are some.
 fn refused_rows(
@@ -87,41 +42,52 @@ fn refused_rows(
     }
 }
 
-// Files of other texts are carried.
-fn carry_found<T: Twin>(
+// Files are carried as is planned.
+fn carry_planned<T: Twin>(
     alloc: Global,
     twin: &mut T,
     generation: &Generation,
     fingerprint: &[u8; 32],
     kept: &mut Kept,
+    plan: &Plan,
     losses: Losses,
 ) -> Result<Carried, FilesError>
     requires known { IsKnown kept.old }
-    requires double { is_some generation.now.double ≡ true }
-    requires differs { kept.old.file.store.identity.fingerprint ≡ fingerprint.now → ⊥ }
+    requires plan { IsPlan generation.now fingerprint.now (files_in kept.old) plan.now }
     requires is_in { IsTrue (T.both twin.old).told → IsIn kept.old (T.both twin.old).first.holds (T.both twin.old).second.holds }
     requires at_rest { IsTrue (T.both twin.old).told → BothRest (T.both twin.old) (T.leaves twin.old) }
     ensures done { IfOk result (λ o. IsTrue (T.both twin.old).told → Outcome generation.now fingerprint.now losses (files_in kept.old) o (T.both twin.old) (T.both twin.new) (T.leaves twin.old) (T.leaves twin.new)) }
     ensures any_moment { IsTrue (T.both twin.old).told → StaysWithin (AreEither (files_in kept.old) (carried_files generation.now fingerprint.now (files_in kept.old))) (T.both twin.old) (T.both twin.new) (T.leaves twin.old) (T.leaves twin.new) }
-    ensures refused { (why : Cause) → IsErrOf result (FilesError.Refused why) → judgement generation.now (files_in kept.old) ≡ Err why }
-    ensures spent { (n : ℕ) → IsErrOf result (FilesError.Spent n) → (judgement generation.now (files_in kept.old) ≡ Ok tt) × (kept.old.sequence ≡ Some n) × (last_sequence ≤ n) }
-    ensures still { IsTrue (T.both twin.old).told → (MayCarry generation.now fingerprint.now (files_in kept.old) → ⊥) → RestsBoth (T.both twin.old) (T.both twin.new) (T.leaves twin.old) (T.leaves twin.new) }
-    ensures two { IsErrOf result FilesError.TwoMeanings → ⊥ }
+    ensures told { (IsErrOf result FilesError.TwoMeanings → ⊥) × ((why : Cause) → IsErrOf result (FilesError.Refused why) → ⊥) × ((n : ℕ) → IsErrOf result (FilesError.Spent n) → ⊥) }
     ensures failed { IsErrOf result FilesError.Failed → RoseOnOne (T.both twin.old) (T.both twin.new) }
     ensures fine { IfOk result (λ o. Fails o (T.both twin.old) (T.both twin.new)) }
     ensures frame { FrameBoth (T.both twin.old) (T.both twin.new) }
 {
-    let (new, gone) = new_tables(alloc, generation, kept)?;
-    let sequence = new_sequence(generation, kept.sequence)?;
-    if let Some(rows) = refused_rows(alloc, &kept.tables, &new, losses)? {
+    if let Some(rows) = refused_rows(alloc, &kept.tables, &plan.tables, losses)? {
         return Ok(Carried::WouldLose(rows));
     }
-    let content = new_content(alloc, generation, kept, &new, sequence)?;
+    let content = new_content(alloc, generation, kept, &plan.tables, plan.sequence)?;
     let lost = carry_over(alloc, twin, generation, fingerprint, kept, content)?;
-    Ok(Carried::Stand(gone, lost))
+    Ok(Carried::Stand(plan.gone, lost))
 }
 
-// Files that were found are kept where they are of these texts, and else carried.
+// Copies of these texts are made alike.
+fn keep_files<T: Twin>(alloc: Global, twin: &mut T, kept: &Kept) -> Result<Carried, FilesError>
+    requires known { IsKnown kept.now }
+    requires is_in { IsTrue (T.both twin.old).told → IsIn kept.now (T.both twin.old).first.holds (T.both twin.old).second.holds }
+    requires at_rest { IsTrue (T.both twin.old).told → BothRest (T.both twin.old) (T.leaves twin.old) }
+    ensures done { (g : Generated) (fingerprint : List ℕ) (losses : Loss) → IsUpToDate g fingerprint (files_in kept.now) → IfOk result (λ o. IsTrue (T.both twin.old).told → Outcome g fingerprint losses (files_in kept.now) o (T.both twin.old) (T.both twin.new) (T.leaves twin.old) (T.leaves twin.new)) }
+    ensures any_moment { IsTrue (T.both twin.old).told → StaysWithin (AreFiles (files_in kept.now)) (T.both twin.old) (T.both twin.new) (T.leaves twin.old) (T.leaves twin.new) }
+    ensures told { (IsErrOf result FilesError.TwoMeanings → ⊥) × ((why : Cause) → IsErrOf result (FilesError.Refused why) → ⊥) × ((n : ℕ) → IsErrOf result (FilesError.Spent n) → ⊥) }
+    ensures failed { IsErrOf result FilesError.Failed → RoseOnOne (T.both twin.old) (T.both twin.new) }
+    ensures fine { IfOk result (λ o. Fails o (T.both twin.old) (T.both twin.new)) }
+    ensures frame { FrameBoth (T.both twin.old) (T.both twin.new) }
+{
+    let alike = make_alike(alloc, twin, kept)?;
+    Ok(Carried::UpToDate(alike))
+}
+
+// Files that were found are kept where they are as the texts ask, and else carried.
 fn carry_kept<T: Twin>(
     alloc: Global,
     twin: &mut T,
@@ -131,7 +97,6 @@ fn carry_kept<T: Twin>(
     losses: Losses,
 ) -> Result<Carried, FilesError>
     requires known { IsKnown kept.old }
-    requires double { is_some generation.now.double ≡ true }
     requires is_in { IsTrue (T.both twin.old).told → IsIn kept.old (T.both twin.old).first.holds (T.both twin.old).second.holds }
     requires at_rest { IsTrue (T.both twin.old).told → BothRest (T.both twin.old) (T.leaves twin.old) }
     ensures done { IfOk result (λ o. IsTrue (T.both twin.old).told → Outcome generation.now fingerprint.now losses (files_in kept.old) o (T.both twin.old) (T.both twin.new) (T.leaves twin.old) (T.leaves twin.new)) }
@@ -144,24 +109,27 @@ fn carry_kept<T: Twin>(
     ensures fine { IfOk result (λ o. Fails o (T.both twin.old) (T.both twin.new)) }
     ensures frame { FrameBoth (T.both twin.old) (T.both twin.new) }
 {
-    if *kept.file.store.fingerprint() == *fingerprint {
-        keep_files(alloc, twin, generation, kept)
-    } else {
-        carry_found(alloc, twin, generation, fingerprint, kept, losses)
+    match planned(alloc, generation, fingerprint, kept)? {
+        Some(plan) => carry_planned(alloc, twin, generation, fingerprint, kept, &plan, losses),
+        None => keep_files(alloc, twin, kept),
     }
 }
 
-/// Carries the files of an application to this generation and the texts with this fingerprint, which ask for two copies:
-/// from one file, or from two copies. Copies of these texts whose tables suit are made alike. Nothing is sent.
-pub fn carry_to_copies<T: Twin>(
+/// Carries the files of an application to this generation and the texts with this fingerprint, which ask for one file or for
+/// two copies: from one file, or from two copies. Files of these texts that are one file where two copies are asked for, or
+/// the reverse, are carried too; others of these texts, whose tables suit, stay, and copies are made alike. Nothing is sent.
+///
+/// The second file is not written where there was one file and one is asked for. Where two copies become one file, the
+/// second file is shut by its first byte before the first one is changed; if a call on it fails, `Failed` comes and the old
+/// copies stand. The file stays in its place, so PGPOOL may not shrink, and copies have a page more: PGPOOL has to be larger
+/// by one then, else `SmallerPool` with the pages of a copy comes.
+pub fn carry_files<T: Twin>(
     alloc: Global,
     twin: &mut T,
     generation: &Generation,
     fingerprint: &[u8; 32],
     losses: Losses,
 ) -> Result<Carried, FilesError>
-    requires double { is_some generation.now.double ≡ true }
-
     // Of files that are taken each half stands for the carried tables afterwards, but for one on which a call failed; or
     // the rows that would go are answered.
     ensures done { IfOk result (λ o. IsTrue (T.both twin.old).told → (f : Files) × AreFiles f (T.both twin.old).first.holds (T.both twin.old).second.holds × Outcome generation.now fingerprint.now losses f o (T.both twin.old) (T.both twin.new) (T.leaves twin.old) (T.leaves twin.new)) }
@@ -182,4 +150,24 @@ pub fn carry_to_copies<T: Twin>(
 {
     let mut kept = find(alloc, twin)?;
     carry_kept(alloc, twin, generation, fingerprint, &mut kept, losses)
+}
+
+/// Tells what `carry_files` would do with the files, and which rows would go. Nothing is written.
+pub fn would_carry<T: Twin>(
+    alloc: Global,
+    twin: &mut T,
+    generation: &Generation,
+    fingerprint: &[u8; 32],
+) -> Result<Would, FilesError>
+    ensures done { IfOk result (λ o. IsTrue (T.both twin.old).told → (f : Files) × AreFiles f (T.both twin.old).first.holds (T.both twin.old).second.holds × WouldBe generation.now fingerprint.now f o) }
+    ensures refused { (why : Cause) → IsErrOf result (FilesError.Refused why) → IsTrue (T.both twin.old).told → AreRefusedAs generation.now fingerprint.now (T.both twin.old).first.holds (T.both twin.old).second.holds why }
+    ensures two { IsErrOf result FilesError.TwoMeanings → IsTrue (T.both twin.old).told → HaveTwoMeanings (T.both twin.old).first.holds (T.both twin.old).second.holds }
+    ensures spent { (n : ℕ) → IsErrOf result (FilesError.Spent n) → IsTrue (T.both twin.old).told → AreSpent generation.now fingerprint.now (T.both twin.old).first.holds (T.both twin.old).second.holds n }
+    ensures rests { IsTrue (T.both twin.old).told → RestsBoth (T.both twin.old) (T.both twin.new) (T.leaves twin.old) (T.leaves twin.new) }
+    ensures failed { IsErrOf result FilesError.Failed → RoseOnOne (T.both twin.old) (T.both twin.new) }
+    ensures fine { (IsErrOf result FilesError.Failed → ⊥) → NoneRose (T.both twin.old) (T.both twin.new) }
+    ensures frame { FrameBoth (T.both twin.old) (T.both twin.new) }
+{
+    let kept = find(alloc, twin)?;
+    would_be(alloc, generation, fingerprint, &kept)
 }

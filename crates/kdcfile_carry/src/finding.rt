@@ -10,10 +10,11 @@ ghost use Rattle.kdcfile_carry.specs.{Files.{AreNone, HaveTwoMeanings}, Finding.
 
 use crate::error::FilesError;
 use crate::first_file::open_first;
-use crate::reading::{are_alike, copy_in, read_two};
+use crate::reading::{copy_in, read_two};
 use device_acts::warm_start::OpenError;
 use kd_device::{Half, Twin};
 use kdcfile_copies::{LoadedCopy, bare_content};
+use kdcfile_double::are_alike;
 use kdcfile_update::kd_update::UpdateError;
 use kdcs_types::Tables;
 use record_codec::tables_of;

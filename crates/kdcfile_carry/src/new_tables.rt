@@ -1,5 +1,5 @@
 //! The tables that files are carried to, and the content that keeps them.
-ghost use Rattle.std.specs.Prelude.{◌≡◌, ◌≤◌, ℕ, List, Ok, Err, IfOk, OnOk, IsErrOf, IfSome, IsSome, Some, is_some, true};
+ghost use Rattle.std.specs.Prelude.{◌≡◌, ◌≤◌, ℕ, List, Ok, Err, IfOk, OnOk, IsErrOf, IfSome, Some, is_some, true};
 ghost use Rattle.application_types.specs.Soundness.{AreLimits};
 ghost use Rattle.kd_records.specs.Identity.{IsIdentity};
 ghost use Rattle.record_codec.specs.Records.{content_of_tables};
@@ -137,17 +137,20 @@ fn with_sequence(alloc: Global, content: &Content, sequence: u64) -> Result<Cont
     content.patched(alloc, &sequenced(alloc, &alone, sequence)?)
 }
 
-/// The sizes that the new files are made with, from texts with this fingerprint.
+/// The sizes that the new files are made with, from texts with this fingerprint: copies have a page more.
 pub(crate) fn new_limits(generation: &Generation, fingerprint: &[u8; 32]) -> StoreLimits
-    requires { IsSome generation.now.double }
     ensures made { identity_with result fingerprint.now ≡ made_with generation.now fingerprint.now }
     ensures identity { IsIdentity (identity_with result fingerprint.now) }
     ensures limits { AreLimits generation.now.limits }
 {
     let _ = fingerprint; // the sizes are the same for all
     let max = generation.max();
+    let more = match generation.double() {
+        Some(_) => 1,
+        None => 0,
+    };
     StoreLimits {
         blksize: max.blksize,
-        pgpool: max.pgpool + 1,
+        pgpool: max.pgpool + more,
     }
 }

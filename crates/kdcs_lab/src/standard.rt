@@ -73,6 +73,14 @@ fn without_end(line: &mut Vec<u8>) {
 }
 
 impl<'a, R: Print + Eprint, I: BufRead + Drop> Console for StandardConsole<'a, R, I> {
+    ghost use Rattle.std.specs.Prelude.{◌≡◌, refl};
+    ghost use Rattle.std.proofs.Common.{◌∙◌};
+
+    ghost prompted = { λ c. c.terminal.is_prompted };
+
+    // What passes at a terminal, no clause can say.
+    ghost passes = { λ a _ b. b.terminal.is_prompted ≡ a.terminal.is_prompted };
+
     fn line(&mut self, alloc: Global) -> Result<Option<Vec<u8>>, LabError> {
         let mut line = Vec::new(alloc);
         match self.input.read_until(b'\n', &mut line) {
@@ -105,4 +113,10 @@ impl<'a, R: Print + Eprint, I: BufRead + Drop> Console for StandardConsole<'a, R
     fn tell(&mut self, text: &str) {
         let _ = eprintln!(self.rt; "lab: {text}");
     }
+
+    ghost passes_none = { λ c. refl };
+
+    ghost passes_both = { λ a b c xs ys first later. later ∙ first };
+
+    ghost same_prompt = { λ a b xs same. same };
 }

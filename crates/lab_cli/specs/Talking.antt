@@ -7,7 +7,7 @@ use Rattle.abstract_monitor.specs.Trace.{history}
 use Rattle.laws_of_states.specs.Keeping.{IsScriptOf}
 use Rattle.script_read.specs.declared.fault.ScriptFault.{ScriptFault}
 use Rattle.monitor_core.specs.CoreValue.{CoreValue}
-use Rattle.lab_turns.specs.Heard.{Heard, heard_in}
+use Rattle.lab_turns.specs.Heard.{Heard, HearsScript}
 use Rattle.lab_turns.specs.Running.{DidSteps}
 
 abbrev pub is_input : Command → Bool
@@ -35,9 +35,9 @@ Performs c auto (Ok commands) d refused =
 Performs c auto (Err why) d refused = (d ≡ c) × (refused ≡ Some why)
 
 -- what is heard of it
-abbrev pub heard_of_line : CoreValue → (auto : Bool) → Result (List Command) ScriptFault → List Heard
-heard_of_line c auto (Ok commands) = heard_in (history c.application c.state (with_turns auto commands))
-heard_of_line c auto (Err why) = []
+abbrev pub HearsLine : {L : Type 0} → (hears : L → List Heard → L → Type 0) → CoreValue → (auto : Bool) → Result (List Command) ScriptFault → L → L → Type 0
+HearsLine hears c auto (Ok commands) a b = HearsScript hears c.application c.state (with_turns auto commands) a b
+HearsLine hears c auto (Err why) a b = hears a [] b
 
 -- the monitor came to the state after the history of a script
 abbrev pub HasTalked : CoreValue → CoreValue → Type 0

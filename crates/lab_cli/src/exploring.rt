@@ -3,7 +3,8 @@ ghost use Rattle.std.specs.{Prelude.{◌≡◌, ◌≤◌, ◌^◌, true, false,
 ghost use Rattle.application_types.specs.Fitted.{IsFit};
 ghost use Rattle.laws_of_runs.specs.Applied.{applied};
 ghost use Rattle.laws_of_states.specs.{Keeping.{IsScriptOf}, Suits.{Suits}};
-ghost use Rattle.lab_orders.specs.{Exploring.{AreAll, AreDistinct, AreOrdered, AreOutcomes}, Walking.{tries_of}};
+ghost use Rattle.abstract_monitor.specs.Commands.{started};
+ghost use Rattle.lab_orders.specs.{Exploring.{AreAll, AreDistinct, AreOrdered, AreOutcomes, IsTried}, Told.{AreMore}, Walking.{tries_of}};
 ghost use Rattle.lab_cli.specs.{Exploring.{do_differ, is_spent, stands_still}, Places.{CanStart}};
 
 use crate::reading::Place;
@@ -218,6 +219,8 @@ fn explore_script<C: Console>(
     ensures outcomes { IfOk result (λ e. AreOutcomes (applied application.generation application.units) tables.now commands.now e.outcomes) }
     ensures orders { IfOk result (λ e. AreOrdered (applied application.generation application.units) tables.now commands.now e.outcomes) }
     ensures all { IfOk result (λ e. e.all ≡ true → AreAll (applied application.generation application.units) tables.now commands.now e.outcomes) }
+    ensures tried { IfOk result (λ e. IsTried (applied application.generation application.units) tables.now commands.now e) }
+    ensures more { IfOk result (λ e. e.all ≡ false → AreMore (applied application.generation application.units) commands.now (started (applied application.generation application.units) tables.now) most) }
     ensures distinct { IfOk result (λ e. AreDistinct e.outcomes) }
     ensures counted { IfOk result (λ e. sum_by (λ o. o.orders) e.outcomes ≡ e.orders) }
     ensures most { IfOk result (λ e. e.orders ≤ most) }
@@ -248,6 +251,8 @@ pub fn explore_orders<C: Console>(
     ensures outcomes { IfOk result (λ r. AreOutcomes (applied place.application.generation place.application.units) place.tables place.commands.items r.1.outcomes) }
     ensures orders { IfOk result (λ r. AreOrdered (applied place.application.generation place.application.units) place.tables place.commands.items r.1.outcomes) }
     ensures all { IfOk result (λ r. r.1.all ≡ true → AreAll (applied place.application.generation place.application.units) place.tables place.commands.items r.1.outcomes) }
+    ensures tried { IfOk result (λ r. IsTried (applied place.application.generation place.application.units) place.tables place.commands.items r.1) }
+    ensures more { IfOk result (λ r. r.1.all ≡ false → AreMore (applied place.application.generation place.application.units) place.commands.items (started (applied place.application.generation place.application.units) place.tables) most) }
     ensures distinct { IfOk result (λ r. AreDistinct r.1.outcomes) }
     ensures counted { IfOk result (λ r. sum_by (λ o. o.orders) r.1.outcomes ≡ r.1.orders) }
     ensures most { IfOk result (λ r. r.1.orders ≤ most) }

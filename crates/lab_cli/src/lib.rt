@@ -6,7 +6,8 @@
 //! keeps what it does in memory: no file is made, attached or written. It is generic over the room that has the texts and
 //! over the console, so that all of it can be tried in memory.
 //!
-//! To the program above, its contract says which words `lab` takes and what its status is; that a session of `talk`
+//! To the program above, its contract says which words `lab` takes and what its status is; that what `trace` prints is the
+//! text of all that is heard of the script, which a definition says line by line; that a session of `talk`
 //! comes to the state after a script, and that a line that is refused changes nothing; and that what `explore_orders`
 //! prints are outcomes of orders, all of them where it says so.
 #![tactic(auto)]
@@ -19,6 +20,7 @@ mod stop;
 mod talking;
 mod testing;
 mod top;
+mod tracing;
 mod words;
 
 pub use exploring::explore_orders;
@@ -29,4 +31,5 @@ pub use refusals::Status;
 pub use stop::Stop;
 pub use talking::{do_line, talk};
 pub use top::lab;
+pub use tracing::trace;
 pub use words::{Word, request_of};

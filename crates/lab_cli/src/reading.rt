@@ -193,7 +193,7 @@ pub fn place_of<R: Room>(
     let application = application_of(alloc, &definition, &units).map_err(of_texts)?;
     let commands = commands_of(alloc, &application, &script).map_err(of_texts)?;
     let fingerprint = fingerprint_of(&definition, &units);
-    let units = Source::of(alloc, units)?;
+    let units = Source::of(alloc, &units)?;
     let tables = tables_of(alloc, room, base, &application.generation, &fingerprint)?;
     Ok(Place {
         application,

@@ -59,7 +59,7 @@ impl Listener for Recorder {
 
     ghost hears = { Records };
 
-    fn command(&mut self, _core: &Core, _command: &Command) -> Result<(), LabError> {
+    fn command(&mut self, _command: &Command) -> Result<(), LabError> {
         Ok(())
     }
 
@@ -71,7 +71,7 @@ impl Listener for Recorder {
         Ok(put_lines(&mut self.sent, acts)?)
     }
 
-    fn over(&mut self, _core: &Core, _turns: u64, _end: RunEnd) -> Result<(), LabError> {
+    fn over(&mut self, _turns: u64, _end: RunEnd) -> Result<(), LabError> {
         Ok(())
     }
 

@@ -2,7 +2,7 @@
 ghost use Rattle.std.specs.{Prelude.{◌≡◌, ◌&&◌, ◌++◌, [], IfOk, OnOk}, List.{list_any}};
 ghost use Rattle.laws_of_states.specs.Keeping.{HasFacts};
 ghost use Rattle.script_read.specs.Commands.{script_in};
-ghost use Rattle.lab_cli.specs.Talking.{HasTalked, Performs, heard_of_line, is_input, run_behind, with_turns};
+ghost use Rattle.lab_cli.specs.Talking.{HasTalked, HearsLine, Performs, is_input, run_behind, with_turns};
 
 use abstract_monitor::Command;
 use kd_base::{Bytes, OutOfMemory};
@@ -89,7 +89,7 @@ pub fn do_line<L: Listener>(
     line: &[u8],
 ) -> Result<(Bench, Option<ScriptFault>), LabError>
     ensures performs { IfOk result (λ r. Performs bench auto (script_in bench.application.generation line.now) r.0 r.1) }
-    ensures heard { OnOk result (L.hears listener.old (heard_of_line bench auto (script_in bench.application.generation line.now)) listener.new) }
+    ensures heard { OnOk result (HearsLine L.hears bench auto (script_in bench.application.generation line.now) listener.old listener.new) }
 {
     match read_script(alloc, &bench.core().parts().generation, line) {
         Ok(said) => {

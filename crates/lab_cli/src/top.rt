@@ -10,6 +10,7 @@ use crate::reading::{Place, place_of};
 use crate::stop::Stop;
 use crate::talking::talk;
 use crate::testing::test;
+use crate::tracing::trace;
 use crate::words::{Word, request_of};
 use abstract_monitor::Command;
 use application_read::Application;
@@ -91,7 +92,7 @@ fn do_word<C: Console>(
 {
     match word {
         Word::Trace => {
-            bench.perform_all(alloc, printer, commands)?;
+            trace(alloc, bench, printer, commands)?;
             Ok(Status::DONE)
         }
         Word::Talk => {

@@ -26,12 +26,12 @@ use Rattle.abstract_monitor.specs.State.{Application, OpenTransaction, State}
 use Rattle.abstract_monitor.specs.Statements.{area_of}
 use Rattle.abstract_monitor.specs.Picks.{pick}
 use Rattle.abstract_monitor.specs.Endings.{durable, refusal, synchronised}
-use Rattle.abstract_monitor.specs.Turns.{Turned, abnormal, back, back_by, happens, last_again, served, settled, settled_by, statement_now, took, took_job, took_job_for, turn_by, turn_of, waiting_for}
+use Rattle.abstract_monitor.specs.Turns.{Turned, abnormal, back, back_by, happens, last_again, served, settled, settled_by, statement_now, took, took_job, took_job_for, turn_by, turn_of, unmoved, waiting_for}
 use Rattle.abstract_monitor.specs.Turns.{without_transaction}
 use Rattle.monitor_core.specs.LockingLaws.{put_same}
 use Rattle.lab_orders.specs.Orders.{has_effect, same_wait, wait_by, wait_in}
 
-found_put : {X : Type 0} (id : ServiceId) (x : X) (es : List (ServiceId × X)) → find id_cmp id (put id_cmp id x es) ≡ Some x
+pub found_put : {X : Type 0} (id : ServiceId) (x : X) (es : List (ServiceId × X)) → find id_cmp id (put id_cmp id x es) ≡ Some x
 found_put id x es = find-put id_cmp id_total id id x es ∙ ap (λ b. cond b (Some x) (find id_cmp id es)) (id_eq_itself id)
 
 -- the same request is told by the test
@@ -100,7 +100,22 @@ happens_still app s task id at x y (Settles o) e = moved_not (sym (point_moves a
 happens_still app s task id at x y (Breaks ending) e = moved_not e
 happens_still app s task id at x y Returns e = moved_not (sym (back_moves app (without_transaction s task id) id x x.began) ∙ e)
 
-took_still : (app : Application) (s : State) (task : ℕ) (o : Option Work) → (took app s task o).moved ≡ false → (took app s task o).after ≡ s
+-- a statement moves nothing only where its request waits
+pub happens_only : (app : Application) (s : State) (task : ℕ) (id : ServiceId) (x y : OpenTransaction) (h : Happened) → (happens app s task id x y h).moved ≡ false → h ≡ Waited
+unfolding happens abnormal
+happens_only app s task id x y Went e = moved_not e
+happens_only app s task id x y Queued e = moved_not e
+happens_only app s task id x y Waited e = refl
+happens_only app s task id x y (Held tac) e = moved_not e
+happens_only app s task id x y (Settles o) e = moved_not (sym (point_moves app s task id x o) ∙ e)
+happens_only app s task id x y (Breaks ending) e = moved_not e
+happens_only app s task id x y Returns e = moved_not (sym (back_moves app (without_transaction s task id) id x x.began) ∙ e)
+
+pub happens_waits : (app : Application) (s : State) (task : ℕ) (id : ServiceId) (x y : OpenTransaction) → happens app s task id x y Waited ≡ unmoved (waiting_for s id (area_of app x))
+unfolding happens
+happens_waits app s task id x y = refl
+
+pub took_still : (app : Application) (s : State) (task : ℕ) (o : Option Work) → (took app s task o).moved ≡ false → (took app s task o).after ≡ s
 took_still app s task None e = refl
 took_still app s task (Some (work.Service id)) e = moved_not e
 took_still app s task (Some (work.Job number)) e = by (job_of s.tables number) e

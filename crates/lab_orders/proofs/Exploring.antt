@@ -1,17 +1,20 @@
 -- All walks, one after another.
 use Rattle.std.proofs.Common.{◌≡◌, inl, inr, ℕ, List, [], ◌∷◌, ◌++◌, zero, suc, ◌+◌, ◌<◌, ◌≤◌, length, get_or, slice_set, refl, sym, ap, subst, ◌∙◌, arith}
-use Rattle.std.specs.Prelude.{◌⊎◌, All}
+use Rattle.std.specs.Prelude.{All, Bool, true, false, cond, nat_lt}
 use Rattle.std.proofs.lemmas.List.Sums.{sum_by-cons}
 use Rattle.kdcs_types.specs.Tables.{TableRows}
 use Rattle.abstract_monitor.specs.declared.command.Command.{Command}
 use Rattle.abstract_monitor.specs.Commands.{started}
 use Rattle.abstract_monitor.specs.State.{Application}
+use Rattle.laws_of_states.specs.ItemsLaws.{IsIn}
 use Rattle.lab_orders.specs.declared.explored.Outcome.{Outcome}
 use Rattle.lab_orders.specs.declared.search.Found.{Found}
-use Rattle.lab_orders.specs.Exploring.{AreDistinct, AreOutcomes, AreSame, IsAdded, IsCounted, IsFirst, IsOther, IsOutcome, IsShown, IsTally, IsThatOf, IsThere, orders_of}
+use Rattle.lab_orders.specs.Exploring.{AreDistinct, AreOutcomes, AreSame, IsAdded, IsCounted, IsFirst, IsOther, IsOutcome, IsShown, IsTally, IsThatOf, IsThere, orders_of, shorter}
 use Rattle.lab_orders.specs.Finding.{IsFound}
 use Rattle.lab_orders.specs.Orders.{HasOutcome}
+use Rattle.lab_orders.specs.Told.{turns_of}
 use Rattle.lab_orders.specs.Walks.{IsWalk}
+use Rattle.lab_orders.proofs.Told.{told_added}
 
 -- one outcome more is among them
 pub record Added (app : Application) (t : TableRows) (cs : List Command) (old new : List Outcome) (turns : List ℕ) : Type 0 where
@@ -34,15 +37,22 @@ module _ (app : Application) (t : TableRows) (cs : List Command) (found : Found)
     outcome_is = subst (λ (o : List ℕ). HasOutcome app cs (started app t) o y.sent y.tables) (sym turns) (of_found y same);
   }
 
-  counted : (x y : Outcome) → IsCounted x y found → IsThatOf y found → IsOutcome app t cs x → IsOutcome app t cs y
-  counted x y c same h = by c.turns
+  that_of : (x y : Outcome) → IsCounted x y found → IsThatOf y found
+  that_of x y c = record { sent = c.sent ∙ c.same.sent; tables = c.tables ∙ c.same.tables }
+
+  counted : (x y : Outcome) → IsCounted x y found → IsOutcome app t cs x → IsOutcome app t cs y
+  counted x y c h = record {
+    walk = subst (IsWalk app cs (started app t)) (sym c.turns) (walk_of (nat_lt (turns_of found.turns) (turns_of x.turns)));
+    outcome_is = subst (λ (o : List ℕ). HasOutcome app cs (started app t) o y.sent y.tables) (sym c.turns) (comes_of (nat_lt (turns_of found.turns) (turns_of x.turns)));
+  }
     where
-      by : (y.turns ≡ x.turns) ⊎ ((y.turns ≡ found.turns) × IsThatOf x found) → IsOutcome app t cs y
-      by (inl turns) = record {
-        walk = subst (IsWalk app cs (started app t)) (sym turns) h.walk;
-        outcome_is = subst (λ (o : List ℕ). HasOutcome app cs (started app t) o y.sent y.tables) (sym turns) (same_outcome app t cs x.turns x y c.sent c.tables h.outcome_is);
-      }
-      by (inr turns) = outcome_found y same turns.0
+      walk_of : (b : Bool) → IsWalk app cs (started app t) (cond b found.turns x.turns)
+      walk_of true = is.walk
+      walk_of false = h.walk
+
+      comes_of : (b : Bool) → HasOutcome app cs (started app t) (cond b found.turns x.turns) y.sent y.tables
+      comes_of true = of_found y (that_of x y c)
+      comes_of false = same_outcome app t cs x.turns x y c.sent c.tables h.outcome_is
 
   added_more : (x y : Outcome) (xs ys : List Outcome) → y ≡ x → IsOutcome app t cs x → Added app t cs xs ys found.turns → Added app t cs (x ∷ xs) (y ∷ ys) found.turns
   added_more x y xs ys same here rest = record {
@@ -61,14 +71,14 @@ module _ (app : Application) (t : TableRows) (cs : List Command) (found : Found)
   added [] (y ∷ z ∷ zs) h each = absurd h
   added (x ∷ xs) [] h each = absurd h
   added (x ∷ xs) (y ∷ ys) (inl h) each = record {
-    each = (counted x y h.0 h.1 each.0, subst (AreOutcomes app t cs) (sym h.2) each.1);
+    each = (counted x y h.0 each.0, subst (AreOutcomes app t cs) (sym h.1) each.1);
     kept = λ o shown. by o shown;
-    there = inl (of_found y h.1);
+    there = inl (of_found y (that_of x y h.0));
   }
     where
       by : (o : List ℕ) → IsShown app t cs (x ∷ xs) o → IsShown app t cs (y ∷ ys) o
       by o (inl here) = inl (same_outcome app t cs o x y h.0.sent h.0.tables here)
-      by o (inr later) = inr (subst (λ (l : List Outcome). IsShown app t cs l o) (sym h.2) later)
+      by o (inr later) = inr (subst (λ (l : List Outcome). IsShown app t cs l o) (sym h.1) later)
   added (x ∷ xs) (y ∷ ys) (inr h) each = added_more x y xs ys h.0 each.0 (added xs ys h.2 each.1)
 
 -- ---- distinct outcomes
@@ -81,7 +91,7 @@ other_added found x [] [] h not other = absurd h
 other_added found x [] (y ∷ []) h not other = (other_first x y found h.same not, tt)
 other_added found x [] (y ∷ z ∷ zs) h not other = absurd h
 other_added found x (z ∷ zs) [] h not other = absurd h
-other_added found x (z ∷ zs) (y ∷ ys) (inl h) not other = (other_first x y found h.1 not, subst (IsOther x) (sym h.2) other.1)
+other_added found x (z ∷ zs) (y ∷ ys) (inl h) not other = (other_first x y found (record { sent = h.0.sent ∙ h.0.same.sent; tables = h.0.tables ∙ h.0.same.tables }) not, subst (IsOther x) (sym h.1) other.1)
 other_added found x (z ∷ zs) (y ∷ ys) (inr h) not other = (subst (λ (o : Outcome). AreSame x o → ⊥) (sym h.0) other.0, other_added found x zs ys h.2 not other.1)
 
 other_counted : (x y : Outcome) → y.sent ≡ x.sent → y.tables ≡ x.tables → (zs : List Outcome) → IsOther x zs → IsOther y zs
@@ -96,7 +106,7 @@ distinct_added found [] [] h distinct = absurd h
 distinct_added found [] (y ∷ []) h distinct = (tt, tt)
 distinct_added found [] (y ∷ z ∷ zs) h distinct = absurd h
 distinct_added found (x ∷ xs) [] h distinct = absurd h
-distinct_added found (x ∷ xs) (y ∷ ys) (inl h) distinct = (subst (IsOther y) (sym h.2) (other_counted x y h.0.sent h.0.tables xs distinct.0), subst AreDistinct (sym h.2) distinct.1)
+distinct_added found (x ∷ xs) (y ∷ ys) (inl h) distinct = (subst (IsOther y) (sym h.1) (other_counted x y h.0.sent h.0.tables xs distinct.0), subst AreDistinct (sym h.1) distinct.1)
 distinct_added found (x ∷ xs) (y ∷ ys) (inr h) distinct = (subst (λ (o : Outcome). IsOther o ys) (sym h.0) (other_added found x xs ys h.2 h.1 distinct.0), distinct_added found xs ys h.2 distinct.1)
 
 -- ---- each order is counted
@@ -109,7 +119,7 @@ counted_added found [] [] h = absurd h
 counted_added found [] (y ∷ []) h = omega (arith, orders_more y [], h.orders)
 counted_added found [] (y ∷ z ∷ zs) h = absurd h
 counted_added found (x ∷ xs) [] h = absurd h
-counted_added found (x ∷ xs) (y ∷ ys) (inl h) = omega (arith, orders_more y ys, orders_more x xs, h.0.orders, ap orders_of h.2)
+counted_added found (x ∷ xs) (y ∷ ys) (inl h) = omega (arith, orders_more y ys, orders_more x xs, h.0.orders, ap orders_of h.1)
 counted_added found (x ∷ xs) (y ∷ ys) (inr h) = omega (arith, orders_more y ys, orders_more x xs, ap (λ (o : Outcome). o.orders) h.0, counted_added found xs ys h.2)
 
 -- the orders of one outcome are among all
@@ -121,34 +131,46 @@ there_orders (o ∷ os) found (suc at) h x e = omega (arith, orders_more o os, t
 -- ---- a tally
 
 module _ (app : Application) (t : TableRows) (cs : List Command) where
-  pub tally_start : (none : List Outcome) → none ≡ [] → IsTally app t cs 0 none
-  tally_start none is = subst (IsTally app t cs 0) (sym is) (record { each = tt; distinct = tt; counted = refl })
+  pub tally_start : (none : List Outcome) → none ≡ [] → IsTally app t cs [] none
+  tally_start none is = subst (IsTally app t cs []) (sym is) (record { each = tt; distinct = tt; counted = refl; told = tt; walks_are = λ w there. absurd there; shown = λ w there. absurd there })
 
-  pub tally_more : (orders : ℕ) (old new : List Outcome) (found : Found) → IsTally app t cs orders old → IsFound app t cs found → IsAdded old new found → IsTally app t cs (orders + 1) new
-  tally_more orders old new found tally is h = record {
-    each = (added app t cs found is old new h tally.each).each;
+  pub tally_more : (walks : List (List ℕ)) (old new : List Outcome) (found : Found) → IsTally app t cs walks old → IsFound app t cs found → IsAdded old new found → IsTally app t cs (found.turns ∷ walks) new
+  tally_more walks old new found tally is h = record {
+    each = more.each;
     distinct = distinct_added found old new h tally.distinct;
     counted = omega (arith, counted_added found old new h, tally.counted);
+    told = told_added app cs (started app t) found is.outcome t refl walks old new h tally.distinct (λ w there comes. tally.shown w there) tally.told;
+    walks_are = walks_are;
+    shown = shown;
   }
+    where
+      more : Added app t cs old new found.turns
+      more = added app t cs found is old new h tally.each
+
+      walks_are : (w : List ℕ) → IsIn w (found.turns ∷ walks) → IsWalk app cs (started app t) w
+      walks_are w (inl same) = subst (IsWalk app cs (started app t)) same is.walk
+      walks_are w (inr later) = tally.walks_are w later
+
+      shown : (w : List ℕ) → IsIn w (found.turns ∷ walks) → IsShown app t cs new w
+      shown w (inl same) = subst (IsShown app t cs new) same more.there
+      shown w (inr later) = more.kept w (tally.shown w later)
 
 -- ---- its place
 
 -- found at its place, it is counted there
-pub counted_there : (old : List Outcome) (found : Found) (at : ℕ) → IsThere old found at → (y d : Outcome) → ((x : Outcome) → x ≡ get_or old at d → IsThatOf x found → IsCounted x y found × IsThatOf y found) → IsAdded old (slice_set old at y) found
+pub counted_there : (old : List Outcome) (found : Found) (at : ℕ) → IsThere old found at → (y d : Outcome) → ((x : Outcome) → x ≡ get_or old at d → IsThatOf x found → IsCounted x y found) → IsAdded old (slice_set old at y) found
 counted_there [] found at h y d counts = absurd h
-counted_there (x ∷ xs) found zero h y d counts = let c = counts x refl h in inl (c.0, c.1, refl)
+counted_there (x ∷ xs) found zero h y d counts = inl (counts x refl h, refl)
 counted_there (x ∷ xs) found (suc at) h y d counts = inr (refl, h.0, counted_there xs found at h.1 y d counts)
 
-pub counted_so : (x here y : Outcome) (found : Found) → x ≡ here → IsThatOf x found → y.sent ≡ here.sent → y.tables ≡ here.tables → (y.turns ≡ here.turns) ⊎ (y.turns ≡ found.turns) → y.orders ≡ here.orders + 1 → IsCounted x y found × IsThatOf y found
-counted_so x here y found is same sent tables turns orders = (
-  record {
-    sent = sent ∙ ap (λ (o : Outcome). o.sent) (sym is);
-    tables = tables ∙ ap (λ (o : Outcome). o.tables) (sym is);
-    turns = elim turns [ inl kept ↦ inl (kept ∙ ap (λ (o : Outcome). o.turns) (sym is)) | inr new ↦ inr (new, same) ];
-    orders = orders ∙ ap (λ (o : Outcome). o.orders + 1) (sym is);
-  },
-  record { sent = sent ∙ ap (λ (o : Outcome). o.sent) (sym is) ∙ same.sent; tables = tables ∙ ap (λ (o : Outcome). o.tables) (sym is) ∙ same.tables },
-)
+pub counted_so : (x here y : Outcome) (found : Found) → x ≡ here → IsThatOf x found → y.sent ≡ here.sent → y.tables ≡ here.tables → y.turns ≡ shorter found.turns here.turns → y.orders ≡ here.orders + 1 → IsCounted x y found
+counted_so x here y found is same sent tables turns orders = record {
+  same = same;
+  sent = sent ∙ ap (λ (o : Outcome). o.sent) (sym is);
+  tables = tables ∙ ap (λ (o : Outcome). o.tables) (sym is);
+  turns = turns ∙ ap (λ (o : Outcome). shorter found.turns o.turns) (sym is);
+  orders = orders ∙ ap (λ (o : Outcome). o.orders + 1) (sym is);
+}
 
 -- not there, it is behind the others
 pub added_behind : (old : List Outcome) (found : Found) (y : Outcome) → All (λ (o : Outcome). IsThatOf o found → ⊥) old → IsFirst y found → IsAdded old (old ++ y ∷ []) found

@@ -27,7 +27,7 @@ use Rattle.lab_orders.specs.Walking.{Begun}
 use Rattle.lab_orders.specs.Walks.{IsEnd, IsWalk, stand}
 use Rattle.lab_orders.proofs.Drawing.{came_start, ended_outcome, ended_walk}
 use Rattle.lab_orders.proofs.Reaching.{goes_start}
-use Rattle.lab_orders.proofs.Searching.{ahead_more, way_more, way_walks}
+use Rattle.lab_orders.proofs.Searching.{ahead_back, ahead_more, way_more, way_walks}
 use Rattle.lab_orders.proofs.Steps.{moved}
 
 module _ (app : Application) (t : TableRows) (cs : List Command) (c : CoreValue) (before : Path) (begun : Begun app t c before) where
@@ -87,7 +87,7 @@ module _ (app : Application) (t : TableRows) (cs : List Command) (frames : List 
 
 -- ---- down to an end
 
-module _ (app : Application) (t : TableRows) (cs : List Command) (old frames : List Frame) (way : IsWay app cs (started app t) frames) (kept : (w : List ℕ) → IsWalk app cs (started app t) w → IsAhead old w → IsAhead frames w) where
+module _ (app : Application) (t : TableRows) (cs : List Command) (old frames : List Frame) (way : IsWay app cs (started app t) frames) (kept : (w : List ℕ) → IsWalk app cs (started app t) w → IsAhead old w → IsAhead frames w) (only : (w : List ℕ) → IsAhead frames w → IsAhead old w) where
   pub descended : (found : Found) → SawIt app cs t frames (seen.Ended found) → Descended app t cs old frames found
   descended found saw = record {
     way = way;
@@ -98,6 +98,7 @@ module _ (app : Application) (t : TableRows) (cs : List Command) (old frames : L
       outcome = subst (λ (o : List ℕ). HasOutcome app cs (started app t) o found.sent found.tables) (sym saw.1) saw.2;
     };
     kept = kept;
+    only = only;
   }
 
   -- one frame deeper
@@ -107,6 +108,9 @@ module _ (app : Application) (t : TableRows) (cs : List Command) (old frames : L
 
     pub deeper_kept : (w : List ℕ) → IsWalk app cs (started app t) w → IsAhead old w → IsAhead deeper w
     deeper_kept w walk h = subst (λ (l : List Frame). IsAhead l w) (sym are) (ahead_more app cs (started app t) frames frame saw.0 saw.1 w walk (kept w walk h))
+
+    pub deeper_only : (w : List ℕ) → IsAhead deeper w → IsAhead old w
+    deeper_only w h = only w (ahead_back frames frame w (subst (λ (l : List Frame). IsAhead l w) are h))
 
 pub saw_next : (app later : Application) → later ≡ app → (t : TableRows) (cs : List Command) (slice frames : List Frame) → slice ≡ frames → (it : Seen) → SawIt later cs t slice it → SawIt app cs t frames it
 saw_next app later same t cs slice frames are it saw = subst (λ (l : List Frame). SawIt app cs t l it) are (subst (λ (a : Application). SawIt a cs t slice it) same saw)

@@ -8,9 +8,12 @@ pub mod Found
 pub mod Lists
 pub mod Ordered
 pub mod Reaching
+pub mod Rotating
 pub mod Scripts
 pub mod Searching
 pub mod Steps
+pub mod Told
 pub mod Trying
+pub mod Waiting
 pub mod Worked
 pub mod Working

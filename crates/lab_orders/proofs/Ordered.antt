@@ -221,11 +221,11 @@ module _ (app : Application) (cs : List Command) where
 
 -- ---- a script
 
-order_begins : (app : Application) (n : ℕ) (cs : List Command) (s : State) (o : List ℕ) → RunsSo app n [] (IsOrder app cs) s o → IsOrder app (Run n ∷ cs) s o
+pub order_begins : (app : Application) (n : ℕ) (cs : List Command) (s : State) (o : List ℕ) → RunsSo app n [] (IsOrder app cs) s o → IsOrder app (Run n ∷ cs) s o
 unfolding IsOrder
 order_begins app n cs s o h = h
 
-order_behind : (app : Application) (c : Command) (cs : List Command) (s : State) → IsNoRun c → (o : List ℕ) → IsOrder app cs (command_of app s c).after o → IsOrder app (c ∷ cs) s o
+pub order_behind : (app : Application) (c : Command) (cs : List Command) (s : State) → IsNoRun c → (o : List ℕ) → IsOrder app cs (command_of app s c).after o → IsOrder app (c ∷ cs) s o
 unfolding IsOrder
 order_behind app (Run turns) cs s plain o h = absurd plain
 order_behind app (Input pterm text) cs s plain o h = h

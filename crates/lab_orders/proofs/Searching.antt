@@ -1,16 +1,18 @@
 -- What can be next, and the walks one after another.
-use Rattle.std.proofs.Common.{◌≡◌, ℕ, zero, suc, ◌+◌, ◌-◌, ◌<◌, ◌≤◌, List, [], ◌∷◌, ◌++◌, inl, inr, refl, sym, ap, subst, ◌∙◌, append_assoc, arith, get_or, drop, length}
+use Rattle.std.proofs.Common.{◌≡◌, ℕ, zero, suc, ◌+◌, ◌-◌, ◌<◌, ◌≤◌, List, [], ◌∷◌, ◌++◌, inl, inr, refl, sym, ap, subst, ◌∙◌, append_assoc, arith, get_or, drop, take, length}
 use Rattle.std.specs.Prelude.{◌⊎◌, Bool, true, false, not, ◌||◌, ◌==◌, IsTrue, All, cond}
 use Rattle.std.proofs.lemmas.Bool.{eq-eqb, eqb-true, true≢false}
-use Rattle.std.proofs.lemmas.List.{drop_all, drop_more, length-append}
+use Rattle.std.proofs.lemmas.List.{drop_all, drop_more, length-append, take-append-drop}
 use Rattle.std.proofs.lemmas.List.Elements.{All-append}
 use Rattle.application_types.specs.Statements.{IsWithin}
 use Rattle.abstract_monitor.specs.declared.command.Command.{Command}
 use Rattle.abstract_monitor.specs.State.{Application, State}
+use Rattle.laws_of_states.specs.ItemsLaws.{IsIn}
 use Rattle.laws_of_states.specs.Keeping.{HasFacts}
 use Rattle.monitor_core.specs.CoreValue.{CoreValue}
 use Rattle.lab_orders.specs.declared.frame.Frame.{Frame}
 use Rattle.lab_orders.specs.Finding.{AreTried, IsAhead, IsLeft, IsSame, others}
+use Rattle.lab_orders.specs.Lists.{AreOnce}
 use Rattle.lab_orders.specs.Orders.{IsAtRest, IsTurn, has_effect, is_in}
 use Rattle.lab_orders.specs.Searching.{IsFrame, IsWay, turn_in, turns_in}
 use Rattle.lab_orders.specs.Trying.{TriedEffect}
@@ -35,6 +37,50 @@ in_last t (x ∷ xs) = by (x == t) (in_last t xs)
     by true rest = refl
     by false rest = rest
 
+-- what is told by the test is there
+pub is_in_there : (t : ℕ) (xs : List ℕ) → IsTrue (is_in t xs) → IsIn t xs
+is_in_there t [] h = absurd (true≢false (sym h))
+is_in_there t (x ∷ xs) h = by (x == t) refl (is_in_there t xs) h
+  where
+    by : (b : Bool) → (x == t) ≡ b → (IsTrue (is_in t xs) → IsIn t xs) → IsTrue (b || is_in t xs) → IsIn t (x ∷ xs)
+    by true e rest h = inl (eqb-true x t e)
+    by false e rest h = inr (rest h)
+
+in_all : (P : ℕ → Type 0) (t : ℕ) (xs : List ℕ) → All P xs → IsIn t xs → P t
+in_all P t [] all h = absurd h
+in_all P t (x ∷ xs) all (inl same) = subst P same (all 0 0 (omega arith))
+in_all P t (x ∷ xs) all (inr later) = in_all P t xs (λ k d less. all (suc k) d (omega (arith, less))) later
+
+in_one_more : (t last : ℕ) (xs : List ℕ) → IsIn t (xs ++ last ∷ []) → IsIn t xs ⊎ (last ≡ t)
+in_one_more t last [] (inl same) = inr same
+in_one_more t last [] (inr later) = absurd later
+in_one_more t last (x ∷ xs) (inl same) = inl (inl same)
+in_one_more t last (x ∷ xs) (inr later) = elim (in_one_more t last xs later) [ inl there ↦ inl (inr there) | inr here ↦ inr here ]
+
+once_more : (xs : List ℕ) (last : ℕ) → AreOnce xs → (IsIn last xs → ⊥) → AreOnce (xs ++ last ∷ [])
+once_more [] last once new = (λ none. none, tt)
+once_more (x ∷ xs) last once new = (
+  λ there. elim (in_one_more x last xs there) [ inl in_xs ↦ once.0 in_xs | inr same ↦ new (inl (sym same)) ],
+  once_more xs last once.1 (λ there. new (inr there)),
+)
+
+-- a choice is not among those behind it
+pub not_behind : (xs : List ℕ) (at : ℕ) → at < length xs → AreOnce xs → IsTrue (is_in (get_or xs at 0) (drop (at + 1) xs)) → ⊥
+not_behind [] at lt once h = omega (arith, lt)
+not_behind (x ∷ xs) zero lt once h = once.0 (is_in_there x xs h)
+not_behind (x ∷ xs) (suc at) lt once h =
+    let more : suc at + 1 ≡ suc (at + 1) = omega arith in
+    not_behind xs at (omega (arith, lt)) once.1 (subst (λ n. IsTrue (is_in (get_or xs at 0) (drop n (x ∷ xs)))) more h)
+
+-- the first or a later one
+pub from_here : (t : ℕ) (xs : List ℕ) (at : ℕ) → at < length xs → (t ≡ get_or xs at 0) ⊎ IsTrue (is_in t (drop (at + 1) xs)) → IsTrue (is_in t (drop at xs))
+from_here t xs at lt h = subst (λ (l : List ℕ). IsTrue (is_in t l)) (sym (drop_more xs at 0 lt)) (by (get_or xs at 0 == t) refl h)
+  where
+    by : (b : Bool) → (get_or xs at 0 == t) ≡ b → (t ≡ get_or xs at 0) ⊎ IsTrue (is_in t (drop (at + 1) xs)) → IsTrue (b || is_in t (drop (at + 1) xs))
+    by true e h = refl
+    by false e (inl same) = absurd (true≢false (sym (eq-eqb (get_or xs at 0) t (sym same)) ∙ e))
+    by false e (inr later) = later
+
 all_one : (P : ℕ → Type 0) (t : ℕ) → P t → All P (t ∷ [])
 all_one P t h zero d less = h
 all_one P t h (suc k) d less = absurd (omega (arith, less))
@@ -57,6 +103,8 @@ pub record Trying (c d : CoreValue) (steps at : ℕ) (choices : List ℕ) (idle 
   pub idle_is : idle + idle_from c.application c.state (at + 1) (c.application.generation.limits.tasks - at) ≡ idle_count c.application c.state
   pub can : All (IsTurn c.application c.state) choices
   pub whole : (t : ℕ) → t ≤ at → IsTurn c.application c.state t → IsTrue (is_in t choices)
+  pub low : (t : ℕ) → IsIn t choices → t ≤ at
+  pub once : AreOnce choices
 
 pub trying_start : (c : CoreValue) (steps : ℕ) (choices : List ℕ) → choices ≡ [] → HasFacts c.application c.state → c.steps ≤ steps → Trying c c steps 0 choices 0
 trying_start c steps choices none facts few = record {
@@ -69,6 +117,8 @@ trying_start c steps choices none facts few = record {
       omega (arith, front);
   can = subst (All (IsTurn c.application c.state)) (sym none) (λ k d less. absurd (omega (arith, less)));
   whole = λ t low turn. let within : 1 ≤ t = turn.within.0 in absurd (omega (arith, low, within));
+  low = λ t h. absurd (subst (IsIn t) none h);
+  once = subst AreOnce (sym none) tt;
 }
 
 idle_one : (app : Application) (s : State) (task n : ℕ) → has_effect app s task ≡ false → idle_from app s task (suc n) ≡ 1 + idle_from app s (task + 1) n
@@ -100,6 +150,8 @@ module _ (c d : CoreValue) (steps at : ℕ) (choices : List ℕ) (idle : ℕ) (t
         omega (arith, front, trying.idle_is);
     can = trying.can;
     whole = whole;
+    low = λ t h. let before : t ≤ at = trying.low t h in omega (arith, before);
+    once = trying.once;
   }
     where
       whole : (t : ℕ) → t ≤ at + 1 → IsTurn c.application c.state t → IsTrue (is_in t choices)
@@ -121,6 +173,8 @@ module _ (c d : CoreValue) (steps at : ℕ) (choices : List ℕ) (idle : ℕ) (t
         omega (arith, front, trying.idle_is);
     can = can;
     whole = whole;
+    low = λ t h. elim (in_one_more t (at + 1) choices h) [ inl there ↦ (let before : t ≤ at = trying.low t there in omega (arith, before)) | inr here ↦ omega (arith, here) ];
+    once = once_more choices (at + 1) trying.once (λ there. let before : at + 1 ≤ at = trying.low (at + 1) there in omega (arith, before));
   }
     where
       turn : IsTurn c.application c.state (at + 1)
@@ -144,6 +198,7 @@ trying_over c d steps at choices idle trying over = record {
       omega (arith, front, trying.idle_is);
   can = trying.can;
   whole = λ t turn. let within : t ≤ c.application.generation.limits.tasks = turn.within.1 in trying.whole t (omega (arith, within, over)) turn;
+  once = trying.once;
 }
 
 -- ---- what can be next
@@ -166,6 +221,7 @@ module _ (app : Application) (s : State) (choices : List ℕ) (idle left room : 
       idle = idle_is ∙ tried.idle_is;
       can = subst (All (CanBe app (InRun left room s))) (sym are) can;
       whole = λ t can. subst (λ (l : List ℕ). IsTrue (is_in t l)) (sym are) (whole t can);
+      once = subst AreOnce (sym are) (once_more choices 0 tried.once (λ there. let turn : IsTurn app s 0 = in_all (IsTurn app s) 0 choices tried.can there in let within : 1 ≤ 0 = turn.within.0 in omega (arith, within)));
       at = let some : length f.choices ≡ length choices + 1 = ap length are ∙ length-append choices (0 ∷ []) in omega (arith, at, some);
     }
       where
@@ -185,6 +241,7 @@ module _ (app : Application) (s : State) (choices : List ℕ) (idle left room : 
       idle = idle_is ∙ tried.idle_is;
       can = subst (All (CanBe app (InRun left room s))) (sym are) turns_can;
       whole = λ t can. subst (λ (l : List ℕ). IsTrue (is_in t l)) (sym are) (whole t can);
+      once = subst AreOnce (sym are) tried.once;
       at = subst (λ n. n < length f.choices) (sym at) (subst (λ (l : List ℕ). 0 < length l) (sym are) (filled choices some));
     }
       where
@@ -278,6 +335,43 @@ module _ (app : Application) (cs : List Command) (s : State) where
       some : w ≡ turns_in frames → ⊥
       some e = no_stop p last here (subst (λ (l : List ℕ). IsEnd (stand app cs s l)) e walk.end)
 
+-- ---- and nothing else is
+
+pub ahead_back : (frames : List Frame) (last : Frame) (w : List ℕ) → IsAhead (frames ++ last ∷ []) w → IsAhead frames w
+ahead_back [] last w h = tt
+ahead_back (f ∷ frames) last [] h = absurd h
+ahead_back (f ∷ frames) last (t ∷ w) (inl both) = inl (both.0, ahead_back frames last w both.1)
+ahead_back (f ∷ frames) last (t ∷ w) (inr other) = inr other
+
+pub left_ahead : (frames : List Frame) (w : List ℕ) → IsLeft frames w → IsAhead frames w
+left_ahead [] w h = absurd h
+left_ahead (f ∷ frames) [] h = absurd h
+left_ahead (f ∷ frames) (t ∷ w) (inl both) = inl (both.0, left_ahead frames w both.1)
+left_ahead (f ∷ frames) (t ∷ w) (inr other) = inr other
+
+pub turns_ahead : (frames : List Frame) → IsAhead frames (turns_in frames)
+turns_ahead [] = tt
+turns_ahead (f ∷ frames) = inl (refl, turns_ahead frames)
+
+-- what can be next, none twice
+abbrev AreOpen : Frame → Type 0
+AreOpen f = AreOnce f.choices × (f.at < length f.choices)
+
+-- the turns of frames are not left
+pub turns_not_left : (frames : List Frame) → All AreOpen frames → IsLeft frames (turns_in frames) → ⊥
+turns_not_left [] opened h = h
+turns_not_left (f ∷ frames) opened (inl both) = turns_not_left frames (λ k d less. opened (suc k) d (omega (arith, less))) both.1
+turns_not_left (f ∷ frames) opened (inr other) = let here = opened 0 f (omega arith) in not_behind f.choices f.at here.1 here.0 other
+
+open_at : (app : Application) (p : Spot) (f : Frame) → IsFrame app p f → AreOpen f
+open_at app (AtEnd s) f h = absurd h
+open_at app (InRun left room s) f h = (h.once, h.at)
+
+pub way_open : (app : Application) (cs : List Command) (s : State) (frames : List Frame) → IsWay app cs s frames → All AreOpen frames
+way_open app cs s frames way k d less =
+    open_at app (stand app cs s (turns_in (take k frames))) (get_or frames k d)
+    (way (take k frames) (get_or frames k d) (drop (k + 1) frames) (sym (take-append-drop k frames) ∙ ap (λ (l : List Frame). take k frames ++ l) (drop_more frames k d less)))
+
 -- at an end
 pub ahead_end : (app : Application) (cs : List Command) (s : State) (frames : List Frame) → IsEnd (stand app cs s (turns_in frames)) → (w : List ℕ) → IsWalk app cs s w → IsAhead frames w → (w ≡ turns_in frames) ⊎ IsLeft frames w
 ahead_end app cs s frames end w walk ahead = by frames w (λ t behind e. closed (stand app cs s (turns_in frames)) end t (walk.can (turns_in frames) t behind e)) ahead
@@ -312,6 +406,23 @@ left_next (f ∷ frames) old new is lt [] h = absurd h
 left_next (f ∷ frames) old new is lt (t ∷ w) (inl both) = inl (both.0, left_next frames old new is lt w both.1)
 left_next (f ∷ frames) old new is lt (t ∷ w) (inr other) = inr other
 
+pub next_left : (frames : List Frame) (old new : Frame) → NextFrame old new → old.at + 1 < length old.choices → (w : List ℕ) → IsAhead (frames ++ new ∷ []) w → IsLeft (frames ++ old ∷ []) w
+next_left [] old new is lt [] h = absurd h
+next_left [] old new is lt (t ∷ w) h = inr (from_here t old.choices (old.at + 1) lt (by h))
+  where
+    by : ((t ≡ turn_in new) × IsAhead [] w) ⊎ IsTrue (is_in t (others new)) → (t ≡ get_or old.choices (old.at + 1) 0) ⊎ IsTrue (is_in t (drop (old.at + 1 + 1) old.choices))
+    by (inl both) = inl (both.0 ∙ (λ i. get_or (is.0 i) (is.1 i) 0))
+    by (inr other) = inr (subst (λ (l : List ℕ). IsTrue (is_in t l)) (λ i. drop (is.1 i + 1) (is.0 i)) other)
+next_left (f ∷ frames) old new is lt [] h = absurd h
+next_left (f ∷ frames) old new is lt (t ∷ w) (inl both) = inl (both.0, next_left frames old new is lt w both.1)
+next_left (f ∷ frames) old new is lt (t ∷ w) (inr other) = inr other
+
+pub left_longer : (frames : List Frame) (last : Frame) (w : List ℕ) → IsLeft frames w → IsLeft (frames ++ last ∷ []) w
+left_longer [] last w h = absurd h
+left_longer (f ∷ frames) last [] h = absurd h
+left_longer (f ∷ frames) last (t ∷ w) (inl both) = inl (both.0, left_longer frames last w both.1)
+left_longer (f ∷ frames) last (t ∷ w) (inr other) = inr other
+
 -- the last frame has no other choice
 pub left_less : (frames : List Frame) (last : Frame) → length last.choices ≤ last.at + 1 → (w : List ℕ) → IsLeft (frames ++ last ∷ []) w → IsLeft frames w
 left_less [] last over [] h = absurd h
@@ -327,6 +438,7 @@ next_frame app (InRun left room u) old new is lt h = record {
   idle = is.2 ∙ h.idle;
   can = subst (All (CanBe app (InRun left room u))) (sym is.0) h.can;
   whole = λ t can. subst (λ (l : List ℕ). IsTrue (is_in t l)) (sym is.0) (h.whole t can);
+  once = subst AreOnce (sym is.0) h.once;
   at = subst (λ (l : List ℕ). new.at < length l) (sym is.0) (omega (arith, is.1, lt));
 }
 

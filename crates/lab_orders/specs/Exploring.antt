@@ -1,14 +1,17 @@
 -- What an exploration promises.
-use Rattle.std.specs.Prelude.{◌≡◌, ◌⊎◌, ◌+◌, ◌≤◌, ℕ, zero, suc, true, false, List, [], ◌∷◌, sum_by}
+use Rattle.std.specs.Prelude.{◌≡◌, ◌⊎◌, ◌+◌, ◌≤◌, ℕ, zero, suc, true, false, List, [], ◌∷◌, cond, length, nat_lt, sum_by, Option, Some, None}
 use Rattle.kdcs_types.specs.Tables.{TableRows}
 use Rattle.abstract_monitor.specs.declared.command.Command.{Command}
 use Rattle.abstract_monitor.specs.Commands.{started}
 use Rattle.abstract_monitor.specs.State.{Application}
+use Rattle.laws_of_states.specs.ItemsLaws.{IsIn}
 use Rattle.lab_orders.specs.declared.explored.Explored.{Explored}
 use Rattle.lab_orders.specs.declared.explored.Outcome.{Outcome}
 use Rattle.lab_orders.specs.declared.search.Found.{Found}
 use Rattle.lab_orders.specs.Laws.{IsOrdered}
+use Rattle.lab_orders.specs.Lists.{AreOnce}
 use Rattle.lab_orders.specs.Orders.{HasOutcome, IsOrder}
+use Rattle.lab_orders.specs.Told.{AreMore, AreTold, AreWalks, turns_of}
 use Rattle.lab_orders.specs.Walks.{IsWalk}
 
 -- the outcome of a walk, which it shows
@@ -54,26 +57,48 @@ AreDistinct (x ∷ xs) = IsOther x xs × AreDistinct xs
 abbrev pub orders_of : List Outcome → ℕ
 orders_of outcomes = sum_by (λ (o : Outcome). o.orders) outcomes
 
--- distinct outcomes, and each of so many orders is counted for one
-pub record IsTally (app : Application) (t : TableRows) (commands : List Command) (orders : ℕ) (outcomes : List Outcome) : Type 0 where
+-- distinct outcomes of just these walks
+pub record IsTally (app : Application) (t : TableRows) (commands : List Command) (walks : List (List ℕ)) (outcomes : List Outcome) : Type 0 where
   pub each : AreOutcomes app t commands outcomes
   pub distinct : AreDistinct outcomes
-  pub counted : orders_of outcomes ≡ orders
+  pub counted : orders_of outcomes ≡ length walks
+  pub told : AreTold app commands (started app t) walks outcomes
+  pub walks_are : AreWalks app commands (started app t) walks
+  pub shown : (walk : List ℕ) → IsIn walk walks → IsShown app t commands outcomes walk
 
--- the outcome of each walk is among the outcomes
-abbrev pub AreWalked : Application → TableRows → List Command → List Outcome → Type 0
-AreWalked app t commands outcomes = (walk : List ℕ) → IsWalk app commands (started app t) walk → IsShown app t commands outcomes walk
+-- the walks that were tried, and that the outcomes tell of them what is so
+pub record IsTried (app : Application) (t : TableRows) (commands : List Command) (e : Explored) : Type 0 where
+  pub walks : List (List ℕ)
+  pub each : AreWalks app commands (started app t) walks
+  -- the number told is theirs
+  pub number : length walks ≡ e.orders
+  -- each comes to one of the outcomes
+  pub shown : (walk : List ℕ) → IsIn walk walks → IsShown app t commands e.outcomes walk
+  pub told : AreTold app commands (started app t) walks e.outcomes
+  -- where all were tried, each was, and once
+  pub once : e.all ≡ true → AreOnce walks
+  pub whole : e.all ≡ true → (walk : List ℕ) → IsWalk app commands (started app t) walk → IsIn walk walks
 
 -- of all walks, which are at most so many
 pub record IsOfAllWalks (app : Application) (t : TableRows) (commands : List Command) (most : ℕ) (e : Explored) : Type 0 where
-  pub tally : IsTally app t commands e.orders e.outcomes
-  pub each_walk : AreWalked app t commands e.outcomes
+  pub walks : List (List ℕ)
+  pub tally : IsTally app t commands walks e.outcomes
+  pub number : length walks ≡ e.orders
+  pub once : AreOnce walks
+  pub each_walk : (walk : List ℕ) → IsWalk app commands (started app t) walk → IsIn walk walks
   pub all : e.all ≡ true
   pub most_orders : e.orders ≤ most
 
--- of just so many orders
+-- of all walks, or there are more than so many
+abbrev pub AllOrMore : Application → TableRows → List Command → (most : ℕ) → Option Explored → Type 0
+AllOrMore app t commands most (Some e) = IsOfAllWalks app t commands most e
+AllOrMore app t commands most None = AreMore app commands (started app t) most
+
+-- of just so many walks
 pub record IsDrawn (app : Application) (t : TableRows) (commands : List Command) (most : ℕ) (e : Explored) : Type 0 where
-  pub tally : IsTally app t commands e.orders e.outcomes
+  pub walks : List (List ℕ)
+  pub tally : IsTally app t commands walks e.outcomes
+  pub number : length walks ≡ e.orders
   pub all : e.all ≡ false
   pub orders : e.orders ≡ most
 
@@ -90,11 +115,16 @@ IsThere [] found at = ⊥
 IsThere (x ∷ xs) found zero = IsThatOf x found
 IsThere (x ∷ xs) found (suc at) = (IsThatOf x found → ⊥) × IsThere xs found at
 
--- one order more, and it shows as before, or the turns of the order that was found and comes to the same
+-- the one with fewer turns, or else the other
+abbrev pub shorter : (walk other : List ℕ) → List ℕ
+shorter walk other = cond (nat_lt (turns_of walk) (turns_of other)) walk other
+
+-- one order more that comes to it, and it shows the shorter one
 pub record IsCounted (old new : Outcome) (found : Found) : Type 0 where
+  pub same : IsThatOf old found
   pub sent : new.sent ≡ old.sent
   pub tables : new.tables ≡ old.tables
-  pub turns : (new.turns ≡ old.turns) ⊎ ((new.turns ≡ found.turns) × IsThatOf old found)
+  pub turns : new.turns ≡ shorter found.turns old.turns
   pub orders : new.orders ≡ old.orders + 1
 
 -- what was found is a new outcome
@@ -109,4 +139,4 @@ IsAdded [] [] found = ⊥
 IsAdded [] (y ∷ []) found = IsFirst y found
 IsAdded [] (y ∷ z ∷ zs) found = ⊥
 IsAdded (x ∷ xs) [] found = ⊥
-IsAdded (x ∷ xs) (y ∷ ys) found = (IsCounted x y found × IsThatOf y found × (ys ≡ xs)) ⊎ ((y ≡ x) × (IsThatOf x found → ⊥) × IsAdded xs ys found)
+IsAdded (x ∷ xs) (y ∷ ys) found = (IsCounted x y found × (ys ≡ xs)) ⊎ ((y ≡ x) × (IsThatOf x found → ⊥) × IsAdded xs ys found)

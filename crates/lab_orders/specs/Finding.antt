@@ -15,6 +15,7 @@ use Rattle.lab_orders.specs.declared.frame.Frame.{Frame}
 use Rattle.lab_orders.specs.declared.search.Found.{Found}
 use Rattle.lab_orders.specs.declared.search.Seen.{Seen}
 use Rattle.lab_orders.specs.declared.search.Seen.TheVariants as seen
+use Rattle.lab_orders.specs.Lists.{AreOnce}
 use Rattle.lab_orders.specs.Orders.{HasOutcome, IsTurn, is_in}
 use Rattle.lab_orders.specs.Searching.{IsFrame, IsWay, turn_in, turns_in}
 use Rattle.lab_orders.specs.Walking.{tries_of}
@@ -38,6 +39,7 @@ pub record AreTried (app : Application) (s : State) (choices : List ℕ) (idle :
   pub idle_is : idle ≡ idle_count app s
   pub can : All (IsTurn app s) choices
   pub whole : (t : ℕ) → IsTurn app s t → IsTrue (is_in t choices)
+  pub once : AreOnce choices
 
 -- the core is as it was
 pub record IsSame (c d : CoreValue) : Type 0 where
@@ -75,8 +77,16 @@ pub record Descended (app : Application) (t : TableRows) (cs : List Command) (ol
   pub turns : found.turns ≡ turns_in new
   pub found_is : IsFound app t cs found
   pub kept : (w : List ℕ) → IsWalk app cs (started app t) w → IsAhead old w → IsAhead new w
+  -- and no walk is ahead that was not
+  pub only : (w : List ℕ) → IsAhead new w → IsAhead old w
 
--- the next choice was taken, and the way there is as before; or none was left
+-- the next choice was taken: just what was left is ahead, and the way there is as before
+pub record Advanced (old new : List Frame) : Type 0 where
+  pub left : (w : List ℕ) → IsLeft old w → IsAhead new w
+  pub only : (w : List ℕ) → IsAhead new w → IsLeft old w
+  pub way : (app : Application) (cs : List Command) (s : State) → IsWay app cs s old → IsWay app cs s new
+
+-- it was taken, or none was left
 abbrev pub AdvancedOrNot : (old new : List Frame) → (more : Bool) → Type 0
-AdvancedOrNot old new true = ((w : List ℕ) → IsLeft old w → IsAhead new w) × ((app : Application) (cs : List Command) (s : State) → IsWay app cs s old → IsWay app cs s new)
+AdvancedOrNot old new true = Advanced old new
 AdvancedOrNot old new false = (w : List ℕ) → IsLeft old w → ⊥

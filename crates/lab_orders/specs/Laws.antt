@@ -5,10 +5,11 @@ use Rattle.abstract_monitor.specs.declared.command.Command.{Command}
 use Rattle.abstract_monitor.specs.Bytes.{Bytes}
 use Rattle.abstract_monitor.specs.Commands.{started}
 use Rattle.abstract_monitor.specs.State.{Application, State}
+use Rattle.abstract_monitor.specs.Trace.{history}
 use Rattle.laws_of_states.specs.Applications.{IsApplication}
 use Rattle.laws_of_states.specs.Keeping.{IsScriptOf}
 use Rattle.laws_of_states.specs.Suits.{Suits}
-use Rattle.lab_orders.specs.Orders.{HasOutcome, IsOrder, worked}
+use Rattle.lab_orders.specs.Orders.{HasOutcome, IsOrder, order_steps, worked}
 use Rattle.lab_orders.specs.Walks.{IsWalk}
 
 -- tables from which the script can start
@@ -36,3 +37,12 @@ pub record IsOrdered (app : Application) (cs : List Command) (s : State) (walk :
 -- each walk is
 abbrev pub WalksAreOrders : Type 0
 WalksAreOrders = (app : Application) (cs : List Command) (s : State) (walk : List ℕ) → IsWalk app cs s walk → IsOrdered app cs s walk
+
+-- an order that does, step by step, what the script does in the rotation of the tasks
+pub record IsRotation (app : Application) (t : TableRows) (cs : List Command) (order : List ℕ) : Type 0 where
+  pub is_order : IsOrder app cs (started app t) order
+  pub steps : order_steps app cs (started app t) order ≡ history app (started app t) cs
+
+-- there is one
+abbrev pub RotationsAreOrders : Type 0
+RotationsAreOrders = (app : Application) (t : TableRows) (cs : List Command) → Starts app t cs → (order : List ℕ) × IsRotation app t cs order

@@ -1,3 +1,4 @@
+pub mod Lists
 pub mod Orders
 pub mod Walks
 pub mod Trying
@@ -5,5 +6,6 @@ pub mod Walking
 pub mod Searching
 pub mod Drawing
 pub mod Finding
+pub mod Told
 pub mod Exploring
 pub mod Laws

@@ -14,6 +14,7 @@ use Rattle.lab_orders.specs.declared.path.Path.{Path}
 use Rattle.lab_orders.specs.declared.reach.Place.{Place}
 use Rattle.lab_orders.specs.declared.reach.Place.TheVariants.{Inside, Ended}
 use Rattle.lab_orders.specs.Orders.{is_in, order_steps, turned_run, turned_script}
+use Rattle.lab_orders.specs.Lists.{AreOnce}
 use Rattle.lab_orders.specs.Walking.{IsBeside, tries_of}
 use Rattle.lab_orders.specs.Walks.{CanBe, Spot, InRun, AtEnd, idle_count, stand, stand_run}
 
@@ -29,6 +30,7 @@ pub record Opens (app : Application) (left room : ℕ) (s : State) (f : Frame) :
   pub idle : f.idle ≡ idle_count app s
   pub can : All (CanBe app (InRun left room s)) f.choices
   pub whole : (t : ℕ) → CanBe app (InRun left room s) t → IsTrue (is_in t f.choices)
+  pub once : AreOnce f.choices
   pub at : f.at < length f.choices
 
 abbrev pub IsFrame : Application → Spot → Frame → Type 0

@@ -1,7 +1,8 @@
 //! All orders of a script, and the distinct outcomes.
-ghost use Rattle.std.specs.Prelude.{◌≡◌, ◌⊎◌, ◌↔◌, ◌+◌, ◌<◌, ◌≤◌, ◌^◌, true, false, All, IsTrue, IfOk, IfSome, MatchOption, OnOk, sum_by};
+ghost use Rattle.std.specs.Prelude.{◌≡◌, ◌↔◌, ◌+◌, ◌<◌, ◌≤◌, ◌^◌, true, false, All, IsTrue, IfOk, MatchOption, OnOk, sum_by};
+ghost use Rattle.abstract_monitor.specs.Commands.{started};
 ghost use Rattle.laws_of_runs.specs.Applied.{applied};
-ghost use Rattle.lab_orders.specs.{Exploring.{AreAll, AreDistinct, AreOrdered, AreOutcomes, IsAdded, IsDrawn, IsThatOf, IsThere, IsOfAllWalks}, Finding.{CanStart}};
+ghost use Rattle.lab_orders.specs.{Exploring.{AllOrMore, AreAll, AreDistinct, AreOrdered, AreOutcomes, IsAdded, IsDrawn, IsThatOf, IsThere, IsTried, shorter}, Finding.{CanStart}, Told.{AreMore, turns_of}};
 
 use crate::draw::drawn_order;
 use crate::laws_of_orders::{orders_are_walked, walks_are_orders};
@@ -85,8 +86,10 @@ impl Explored {
     }
 }
 
-// How many turns an order has.
-fn turns_of(turns: &[u16]) -> usize {
+// How many turns of tasks an order has.
+fn turns_of(turns: &[u16]) -> usize
+    ensures { result ≡ turns_of turns.now }
+{
     turns.iter().filter(|task| **task > 0).count()
 }
 
@@ -118,7 +121,7 @@ impl Outcome {
         requires { self.old.orders + 1 < 2 ^ 64 }
         ensures sent { self.new.sent ≡ self.old.sent }
         ensures tables { self.new.tables ≡ self.old.tables }
-        ensures turns { (self.new.turns ≡ self.old.turns) ⊎ (self.new.turns ≡ found.turns) }
+        ensures turns { self.new.turns ≡ shorter found.turns self.old.turns }
         ensures orders { self.new.orders ≡ self.old.orders + 1 }
     {
         self.orders += 1;
@@ -156,7 +159,7 @@ fn add(outcomes: &mut Vec<Outcome>, found: Found) -> Result<(), OutOfMemory>
 /// A generation and its units, and all outcomes, if they are known.
 type Tried = (Generation, Units, Option<Explored>);
 
-// All orders, one after another, if they are at most so many.
+// All orders, one after another, if they are at most so many. Otherwise one more is found.
 fn all_orders(
     alloc: Global,
     mut generation: Generation,
@@ -167,7 +170,7 @@ fn all_orders(
 ) -> Result<Tried, OutOfMemory>
     requires { CanStart (applied generation units) tables.now commands.now generation units }
     ensures again { IfOk result (λ n. CanStart (applied generation units) tables.now commands.now n.0 n.1) }
-    ensures whole { IfOk result (λ n. IfSome n.2 (λ e. IsOfAllWalks (applied generation units) tables.now commands.now most e)) }
+    ensures whole { IfOk result (λ n. AllOrMore (applied generation units) tables.now commands.now most n.2) }
 {
     let mut outcomes = Vec::new(alloc);
     let mut frames = Vec::new(alloc);
@@ -180,6 +183,14 @@ fn all_orders(
             return Ok((generation, units, Some(Explored::all(outcomes, tried + 1))));
         }
     }
+    let (generation, units, _more) = descend(
+        alloc,
+        generation,
+        units,
+        tables,
+        commands,
+        &mut frames,
+    )?;
     Ok((generation, units, None))
 }
 
@@ -226,6 +237,8 @@ pub fn explore(
     ensures outcomes { IfOk result (λ e. AreOutcomes (applied generation units) tables.now commands.now e.outcomes) }
     ensures orders { IfOk result (λ e. AreOrdered (applied generation units) tables.now commands.now e.outcomes) }
     ensures all { IfOk result (λ e. e.all ≡ true → AreAll (applied generation units) tables.now commands.now e.outcomes) }
+    ensures tried { IfOk result (λ e. IsTried (applied generation units) tables.now commands.now e) }
+    ensures more { IfOk result (λ e. e.all ≡ false → AreMore (applied generation units) commands.now (started (applied generation units) tables.now) most) }
     ensures distinct { IfOk result (λ e. AreDistinct e.outcomes) }
     ensures counted { IfOk result (λ e. sum_by (λ o. o.orders) e.outcomes ≡ e.orders) }
     ensures most { IfOk result (λ e. e.orders ≤ most) }

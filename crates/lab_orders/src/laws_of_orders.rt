@@ -1,5 +1,5 @@
 //! Laws of orders and walks.
-ghost use Rattle.lab_orders.specs.Laws.{OrdersAreWalked, WalksAreOrders};
+ghost use Rattle.lab_orders.specs.Laws.{OrdersAreWalked, RotationsAreOrders, WalksAreOrders};
 
 use laws_of_states::laws_of_places::facts_hold_along;
 use laws_of_states::laws_of_tables::states_stay_sound;
@@ -16,3 +16,11 @@ pub fn orders_are_walked()
 pub fn walks_are_orders()
     ensures { WalksAreOrders }
 {}
+
+/// The rotation of the tasks, by which `utm` performs a script, is an order: some order has the very steps of the script.
+pub fn rotations_are_orders()
+    ensures { RotationsAreOrders }
+{
+    facts_hold_along();
+    states_stay_sound();
+}

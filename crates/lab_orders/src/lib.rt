@@ -4,9 +4,11 @@
 //! of tables, on the laws of states, and on rand_xoshiro, by which orders are drawn. It searches walks, which are orders
 //! without their turns without effect. To the laboratory, its contract says that each outcome is that of a walk, which it
 //! shows: of the script with the TURN commands of this walk in place of RUNs; that each walk is an order without its turns
-//! without effect; that no two outcomes are the same, and their numbers add up to the orders that it says it tried; and
-//! that where it answers that it found all orders, each order's outcome is among the outcomes, whichever turns without
-//! effect it has (`laws_of_orders`). It knows no file and no device.
+//! without effect; that no two outcomes are the same; that there is a list of the walks that were tried, of the length that
+//! it tells, in which so many come to each outcome as it counts, and none of them has fewer turns than the one that is
+//! shown; that where it answers that it tried all, each walk is in this list once, and each order's outcome is among the
+//! outcomes, whichever turns without effect it has; and that elsewhere there are more walks than it may try. Three laws
+//! are beside it (`laws_of_orders`); one says that the rotation of the tasks is an order. It knows no file and no device.
 #![tactic(auto)]
 
 mod draw;

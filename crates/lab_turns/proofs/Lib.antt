@@ -1,1 +1,4 @@
+pub mod Changed
 pub mod Restarting
+pub mod Scripts
+pub mod Trimmed

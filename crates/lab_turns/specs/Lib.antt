@@ -1,3 +1,10 @@
+pub mod Consoles
 pub mod Heard
+pub mod HeardLaws
+pub mod Phrases
+pub mod Printing
+pub mod PrintingLaws
 pub mod Running
 pub mod RunningLaws
+pub mod Sources
+pub mod TurnLines

@@ -5,11 +5,11 @@ ghost use Rattle.laws_of_runs.specs.Applied.{applied};
 ghost use Rattle.laws_of_states.specs.{Keeping.{HasFacts, IsScriptOf}, Suits.{Suits}};
 ghost use Rattle.abstract_monitor.specs.{CommandsOf.{IsCommandOf}, Commands.{started, steps_of}, Trace.{history}};
 ghost use Rattle.monitor_core.specs.CoreSteps.{turns_of};
-ghost use Rattle.lab_turns.specs.{Heard.{heard_in}, Running.{DidSteps}};
+ghost use Rattle.lab_turns.specs.{Heard.{HearsCommand, HearsScript}, Running.{DidSteps}};
 
 use crate::error::LabError;
 use crate::listener::Listener;
-use crate::watching::watch_command;
+use crate::watching::{tell_end, watch_command};
 use abstract_monitor::Command;
 use application_types::generation::Generation;
 use application_types::units::Units;
@@ -98,7 +98,8 @@ impl Bench {
         &self.core
     }
 
-    /// Performs a command that names what the generation has. The listener hears of each of its steps.
+    /// Performs a command that names what the generation has. The listener hears of it, of each of its steps, and how a RUN
+    /// ended.
     pub fn perform<L: Listener>(
         self,
         alloc: Global,
@@ -107,18 +108,20 @@ impl Bench {
     ) -> Result<Bench, LabError>
         requires names { IsCommandOf self.application.generation command.now }
         ensures done { IfOk result (λ next. DidSteps self (steps_of self.application self.state command.now) next) }
-        ensures heard { OnOk result (L.hears listener.old (heard_in (steps_of self.application self.state command.now)) listener.new) }
+        ensures heard { OnOk result (HearsCommand L.hears self.application self.state command.now listener.old listener.new) }
     {
         let Bench { core, mut durable } = self;
-        listener.command(&core, command)?;
+        listener.command(command)?;
         if !may_do(&core, turns_of(command)) {
             return Err(LabError::Spent);
         }
-        let core = watch_command(alloc, core, &mut durable, listener, command)?;
+        let (core, ran) = watch_command(alloc, core, &mut durable, listener, command)?;
+        tell_end(listener, &core, command, ran)?;
         Ok(Bench { core, durable })
     }
 
-    /// Performs the commands of a script in their order. The listener hears of each step of its history.
+    /// Performs the commands of a script in their order. The listener hears of each of them, and of each step
+    /// of their history.
     pub fn perform_all<L: Listener>(
         self,
         alloc: Global,
@@ -127,7 +130,7 @@ impl Bench {
     ) -> Result<Bench, LabError>
         requires names { IsScriptOf self.application commands.now }
         ensures done { IfOk result (λ next. DidSteps self (history self.application self.state commands.now) next) }
-        ensures heard { OnOk result (L.hears listener.old (heard_in (history self.application self.state commands.now)) listener.new) }
+        ensures heard { OnOk result (HearsScript L.hears self.application self.state commands.now listener.old listener.new) }
     {
         let mut bench = self;
         for command in commands {

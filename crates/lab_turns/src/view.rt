@@ -3,7 +3,8 @@ ghost use Rattle.std.specs.Prelude.{◌≡◌, IfOk};
 ghost use Rattle.application_types.specs.Statements.{IsWithin};
 ghost use Rattle.laws_of_states.specs.Keeping.{HasFacts};
 
-use kd_base::{Name, OutOfMemory};
+use application_types::unit_types::{Action, Unit};
+use kd_base::{Name, OutOfMemory, ProgName};
 use kdcs_types::{Area, Code, Ending, ServiceId};
 use monitor_core::{Core, Turned};
 use open_transaction::OpenTransaction;
@@ -14,6 +15,12 @@ use std::alloc::Global;
 pub struct At {
     pub tac: Name,
     pub place: u32,
+    /// The unit of the TAC.
+    pub unit: Option<ProgName>,
+    /// Its line in the text of the units, counted from 1; none past the last statement.
+    pub line: Option<u32>,
+    /// Whether it is a call, which sets KCRCCC.
+    pub calls: bool,
 }
 
 /// What is seen of a turn.
@@ -25,8 +32,6 @@ pub struct TurnView {
     pub after: Option<ServiceId>,
     /// The statement that was next before the turn.
     pub at: Option<At>,
-    /// The statement that is next after the turn, where a service is in the task then.
-    pub next: Option<At>,
     /// False where a free task found no work, or a request waits.
     pub moved: bool,
     /// The code of the last call of the service, where its transaction is still open.
@@ -48,7 +53,6 @@ impl Drop for TurnView {
             before,
             after,
             at,
-            next,
             moved,
             code,
             ending,
@@ -60,7 +64,6 @@ impl Drop for TurnView {
         let _ = before;
         let _ = after;
         let _ = at;
-        let _ = next;
         let _ = moved;
         let _ = code;
         let _ = ending;
@@ -109,12 +112,58 @@ fn transaction_of<'a>(core: &'a Core, id: Option<ServiceId>) -> Option<&'a OpenT
     }
 }
 
-fn at_of(transaction: Option<&OpenTransaction>) -> Option<At> {
+// Whether the statement is a call, which sets KCRCCC.
+fn is_call(action: &Action) -> bool {
+    !matches!(
+        action,
+        Action::Move(_, _)
+            | Action::Join(_, _, _)
+            | Action::Add(_, _)
+            | Action::Sub(_, _)
+            | Action::Mul(_, _)
+            | Action::Div(_, _)
+            | Action::If(_, _, _, _)
+            | Action::Jump(_)
+            | Action::Pend(_, _)
+    )
+}
+
+// The statement of a unit at a place.
+fn statement_of(unit: &Unit, tac: Name, place: u32) -> At {
+    let unit_name = Some(*unit.name());
+    match unit.statement(place) {
+        Some(statement) => At {
+            tac,
+            place,
+            unit: unit_name,
+            line: Some(statement.line),
+            calls: is_call(&statement.action),
+        },
+        None => At {
+            tac,
+            place,
+            unit: unit_name,
+            line: None,
+            calls: false,
+        },
+    }
+}
+
+// The next statement of a transaction.
+fn at_of(core: &Core, transaction: Option<&OpenTransaction>) -> Option<At> {
     let transaction = transaction?;
-    Some(At {
-        tac: transaction.current,
-        place: transaction.run.place,
-    })
+    let tac = transaction.current;
+    let place = transaction.run.place;
+    match core.parts().units.unit_of(tac) {
+        Some(unit) => Some(statement_of(unit, tac, place)),
+        None => Some(At {
+            tac,
+            place,
+            unit: None,
+            line: None,
+            calls: false,
+        }),
+    }
 }
 
 // The code of the last call of the transaction.
@@ -183,7 +232,7 @@ impl Before {
         Ok(Before {
             task,
             service,
-            at: at_of(transaction),
+            at: at_of(core, transaction),
             held: areas_of(alloc, transaction)?,
         })
     }
@@ -207,7 +256,6 @@ impl Before {
             before: self.service,
             after,
             at: self.at,
-            next: at_of(transaction_of(core, after)),
             moved: did.moved,
             code: code_of(transaction),
             ending: ending_of(did),

@@ -1,6 +1,6 @@
 -- Typed lines over the file of a BASE, from what its parts did.
-use Rattle.std.proofs.Common.{◌≡◌, ◌≤◌, ◌⊎◌, ◌∙◌, ◌++◌, ◌∷◌, inl, inr, ⊎_elim, refl, ℕ, List, [], Err, ap, subst, sym, take, arith}
-use Rattle.std.specs.Prelude.{IsTrue, ⊤}
+use Rattle.std.proofs.Common.{◌≡◌, ◌≤◌, ◌⊎◌, ◌∙◌, ◌++◌, ◌∷◌, inl, inr, ⊎_elim, refl, ℕ, List, [], Ok, Err, ap, subst, sym, take, arith}
+use Rattle.std.specs.Prelude.{IsErrOf, IsTrue, ⊤}
 use Rattle.std.proofs.lemmas.Bool.Decides.{nat_tests}
 use Rattle.std.proofs.lemmas.List.{append-nil}
 use Rattle.kd_device.specs.Device.{Frame, Only, Rose, SameFaults, SameNames, State}
@@ -19,9 +19,10 @@ use Rattle.call_parts.specs.Leaving.{MayAttach}
 use Rattle.call_parts.specs.Opening.{OpeningRefuses, Opens}
 use Rattle.call_parts.specs.Words.{file_name}
 use Rattle.live_run.specs.Typing.{SameTyping, TypingState}
+use Rattle.live_run.specs.declared.error.LiveError.{LiveError}
 use Rattle.live_run.specs.declared.error.LiveError.TheVariants as live
 use Rattle.live_cli.specs.Ends.{EndsLive, FailedLive}
-use Rattle.live_cli.specs.Living.{LivedWhole}
+use Rattle.live_cli.specs.Living.{LivedAnswering, LivedWhole}
 use Rattle.live_cli.proofs.Opened.{not_opened}
 
 -- ---- statuses
@@ -85,13 +86,26 @@ module _ (e : Errand) (bytes : List ℕ) where
 abbrev pub AtEnd : ℕ → Type 0 → Type 0
 AtEnd status D = status ≡ 0 → D
 
-whole_weaker : (W V : Type 0 → Type 0) → ((D : Type 0) → W D → V D) → (e : Errand) (t : TableRows) (i : TypingState) (a b : State) (lb : ℕ → List ℕ → List ℕ → Type 0) → LivedWhole W e t i a b lb → LivedWhole V e t i a b lb
-whole_weaker W V f e t i a b lb h = record { exchanges = h.exchanges; answered = h.answered; read = h.read; stops = h.stops; ends = f _ h.ends }
+-- of one that stopped, and of one that halted
+abbrev AtStop : ℕ → Type 0 → Type 0
+AtStop status S = IsOneOf (5 ∷ 7 ∷ []) status → S
+
+abbrev AtHalt : ℕ → (i j : TypingState) → Type 0 → Type 0
+AtHalt status i j H = status ≡ 5 → Rose i.faults j.faults ⊎ H
+
+whole_weaker : (W V X Y M N : Type 0 → Type 0) → ((D : Type 0) → W D → V D) → ((S : Type 0) → X S → Y S) → ((H : Type 0) → M H → N H) → (e : Errand) (t : TableRows) (i : TypingState) (a b : State) (lb : ℕ → List ℕ → List ℕ → Type 0) → LivedWhole W X M e t i a b lb → LivedWhole V Y N e t i a b lb
+whole_weaker W V X Y M N f g k e t i a b lb h = record {
+  exchanges = h.exchanges;
+  answered = h.answered;
+  read = h.read;
+  stops = h.stops;
+  ends = record { ended = h.ends.ended; written = h.ends.written; done = f _ h.ends.done; stopped = g _ h.ends.stopped; halted = k _ h.ends.halted };
+}
 
 module _ (e : Errand) (base : List ℕ) (i j : TypingState) (same : SameTyping i j) (a : State) (la : ℕ → List ℕ → List ℕ → Type 0) where
   module _ (b : State) (lb : ℕ → List ℕ → List ℕ → Type 0) (frame : Frame a b) (names : IsTrue a.told → MayAttach (file_name base) a b) where
     -- all was done
-    pub done_ends : (IsTrue a.told → Only a.holds a la → (t : TableRows) → Opens e a.holds t → LivedWhole (λ Done. Done) e t i a b lb) → (IsTrue a.told → (t : TableRows) × Opens e a.holds t)
+    pub done_ends : (IsTrue a.told → Only a.holds a la → (t : TableRows) → Opens e a.holds t → LivedAnswering (Ok tt) e t i a b lb) → (IsTrue a.told → (t : TableRows) × Opens e a.holds t)
         → (IsTrue a.told → b.names ≡ a.names ++ file_name base ∷ []) → SameFaults a b → j.faults ≡ i.faults → EndsLive e base i j a b la lb 0
     done_ends lived opened named fine heard = record {
       code = refl;
@@ -99,7 +113,7 @@ module _ (e : Errand) (base : List ℕ) (i j : TypingState) (same : SameTyping i
       refused_only = λ is. absurd cc;
       accepted = λ told t opens. refl;
       opened = λ is told. opened told;
-      lived = λ told only t opens. whole_weaker (λ D. D) (AtEnd 0) (λ D d is. d) e t i a b lb (lived told only t opens);
+      lived = λ told only t opens. whole_weaker (λ D. D) (AtEnd 0) (λ S. ⊤) (AtStop 0) (λ H. IsErrOf {T = Unit} (Ok tt) live.Failed → H) (AtHalt 0 i j) (λ D d is. d) (λ S s is. absurd (late_not 0 0 is (omega arith) refl)) (λ H h is. absurd cc) e t i a b lb (lived told only t opens);
       names = names;
       attached = λ is told. named told;
       device = λ is. absurd cc;
@@ -109,15 +123,17 @@ module _ (e : Errand) (base : List ℕ) (i j : TypingState) (same : SameTyping i
     }
 
     -- it ended early
-    pub late_ends : (status : ℕ) → IsOneOf (5 ∷ 7 ∷ []) status → (IsTrue a.told → Only a.holds a la → (t : TableRows) → Opens e a.holds t → LivedWhole (λ Done. ⊤) e t i a b lb) → (IsTrue a.told → ((t : TableRows) → Opens e a.holds t → ⊥) → Rests a b la lb)
+    pub late_ends : (x : LiveError) (status : ℕ) → IsOneOf (5 ∷ 7 ∷ []) status → (status ≡ 5 → (x ≡ live.Failed) ⊎ Rose i.faults j.faults) → (IsTrue a.told → Only a.holds a la → (t : TableRows) → Opens e a.holds t → LivedAnswering (Err x) e t i a b lb) → (IsTrue a.told → ((t : TableRows) → Opens e a.holds t → ⊥) → Rests a b la lb)
         → (status ≡ 5 → FailedLive a b i j) → ((status ≡ 5 → ⊥) → SameFaults a b × (j.faults ≡ i.faults)) → EndsLive e base i j a b la lb status
-    late_ends status late lived still device device_told = record {
+    late_ends x status late five lived still device device_told = record {
       code = late_code status late;
       refused = λ told r refuses. (late_refusal 4 status late, nothing_said (file_line r) a b la lb (still told (λ t opens. not_both e a.holds t r opens refuses)));
       refused_only = λ is. absurd (late_not status 4 late (omega arith) is);
       accepted = λ told t opens. late_refusal 0 status late;
       opened = λ is. absurd (late_not status 0 late (omega arith) is);
-      lived = λ told only t opens. whole_weaker (λ D. ⊤) (AtEnd status) (λ D d is. absurd (late_not status 0 late (omega arith) is)) e t i a b lb (lived told only t opens);
+      lived = λ told only t opens.
+          whole_weaker (λ D. ⊤) (AtEnd status) (λ S. S) (AtStop status) (λ H. IsErrOf {T = Unit} (Err x) live.Failed → H) (AtHalt status i j) (λ D d is. absurd (late_not status 0 late (omega arith) is)) (λ S s is. s)
+          (λ H h is. ⊎_elim (λ failed. inr (h (ap (λ (z : LiveError). Err z) failed))) (λ rose. inl rose) (five is)) e t i a b lb (lived told only t opens);
       names = names;
       attached = λ is. absurd (late_not status 0 late (omega arith) is);
       device = device;
@@ -127,10 +143,10 @@ module _ (e : Errand) (base : List ℕ) (i j : TypingState) (same : SameTyping i
     }
 
   -- memory ran out before all
-  pub nothing_ends : ((c out : List ℕ) → la a.moment c out → IsTrue a.told → out ≡ a.sent) → i ≡ j → EndsLive e base i j a a la la 7
-  nothing_ends silent is =
-      late_ends a la (record { told = refl; disk_faults = omega arith; line_faults = omega arith; moment = omega arith }) (λ told. inl refl) 7 refl
-      (λ told only t opens. not_opened e t i a la only (λ c out left. silent c out left told) opens a la (Err live.Memory) (λ x. ⊤) tt (record { later = omega arith; only = λ m c out le left. inl left }))
+  pub nothing_ends : ((c out : List ℕ) → la a.moment c out → IsTrue a.told → out ≡ a.sent) → (IsTrue a.told → la a.moment a.holds a.sent) → i ≡ j → EndsLive e base i j a a la la 7
+  nothing_ends silent now is =
+      late_ends a la (record { told = refl; disk_faults = omega arith; line_faults = omega arith; moment = omega arith }) (λ told. inl refl) live.Memory 7 refl (λ five. absurd cc)
+      (λ told only t opens. not_opened e t i a la only (λ c out left. silent c out left told) opens a la (Err live.Memory) (λ x. ⊤) tt (record { later = omega arith; only = λ m c out le left. inl left }) (now told) refl (omega arith))
       (λ told none. rests_here a la) (λ five. absurd cc) (λ not. (record { disk = refl; line = refl }, ap (λ (k : TypingState). k.faults) (sym is)))
 
   -- the file is refused, and that was said

@@ -23,7 +23,7 @@ use Rattle.live_cli.specs.declared.error.SessionError.{SessionError}
 use Rattle.live_cli.specs.declared.error.SessionError.TheVariants.{Refused, Failed, Input}
 
 whole_weaker : (W V : Type 0 → Type 0) → ((D : Type 0) → W D → V D) → (e : Errand) (t : TableRows) (i : TypingState) (a b : Both) (la lb : ℕ → List ℕ → List ℕ → List ℕ → Type 0) → LivedWholeTwo W e t i a b la lb → LivedWholeTwo V e t i a b la lb
-whole_weaker W V f e t i a b la lb h = record { mended = h.mended; mended_was = h.mended_was; lived = record { exchanges = h.lived.exchanges; answered = h.lived.answered; read = h.lived.read; stops = h.lived.stops; ends = f _ h.lived.ends } }
+whole_weaker W V f e t i a b la lb h = record { mended = h.mended; mended_was = h.mended_was; lived = record { exchanges = h.lived.exchanges; answered = h.lived.answered; read = h.lived.read; stops = h.lived.stops; ends = f _ h.lived.ends }; ended = h.ended }
 
 module _ (e : Errand) (base : List ℕ) (i j : TypingState) (a b : Both) (la lb : ℕ → List ℕ → List ℕ → List ℕ → Type 0) where
   -- all was done

@@ -1,5 +1,5 @@
 -- Typed lines over two copies, after the opening of both files: a is the twin at the call, m after the opening, and b at the end.
-use Rattle.std.proofs.Common.{◌≡◌, ◌⊎◌, ◌∙◌, ◌++◌, inl, inr, ⊎_elim, refl, ℕ, List, [], Some, None, Err, ap, subst, sym, arith}
+use Rattle.std.proofs.Common.{◌≡◌, ◌≤◌, ◌⊎◌, ◌∙◌, ◌++◌, inl, inr, ⊎_elim, refl, ℕ, List, [], Some, None, Err, ap, subst, sym, arith}
 use Rattle.std.specs.Prelude.{IsErrAnd, IsErrOf, IsTrue, OnOk, Result, Ok}
 use Rattle.kd_base.specs.ToolsLaws.{err_is}
 use Rattle.application_types.specs.Soundness.{AreLimits}
@@ -22,6 +22,7 @@ use Rattle.kdcfile_double.specs.declared.error.TwinOpenError.TheVariants as open
 use Rattle.monitor_core.specs.CoreSteps.{durable_of}
 use Rattle.monitor_core.specs.CoreValue.{CoreValue}
 use Rattle.twin_run.specs.Running.{CountsAs, FailsTwice, FrameTwice, IsCopyOfTables, IsRunningTwice, RanTwice, WithinTwice, lines_for, mended_line}
+use Rattle.call_ends.specs.Stops.{IsStopOfRun}
 use Rattle.call_ends.specs.StopsLaws.{attached_then, faults_of_run, fails_of_run, fine_of_run, frames_then, nothing_within, ran_from, rose_before, rose_later, silent_stop, stop_of_run}
 use Rattle.refusals.specs.Statuses.{status_of_file}
 use Rattle.refusals.specs.declared.error.FileRefusal.{FileRefusal}
@@ -44,7 +45,7 @@ use Rattle.live_cli.specs.Living.{acts_lived, begun}
 use Rattle.live_cli.specs.LivingTwo.{IsSparedSince, LivedTwice, LivedWholeTwo, MayLoseSince, ReadInTurnTwo, acts_since, tables_then}
 use Rattle.live_cli.specs.declared.error.SessionError.{SessionError}
 use Rattle.live_cli.specs.declared.error.SessionError.TheVariants.{Refused, Failed, Input}
-use Rattle.live_cli.proofs.Begun.{core_is, durable_is, none_ok}
+use Rattle.live_cli.proofs.Begun.{core_is, durable_begun, none_ok}
 use Rattle.live_cli.proofs.Bracketed.{may_lose_more}
 
 -- ---- the monitor begins with the tables of the copies
@@ -54,7 +55,7 @@ module _ (e : Errand) (t : TableRows) (core : CoreValue) (application : core.app
   begun_is = core_is e t core application state steps suits
 
   durable_now : durable_of (begun e t) ≡ t
-  durable_now = durable_is e t core application state steps suits
+  durable_now = durable_begun e t suits
 
   pub copies_run : IsApplication core.application → HasFacts core.application core.state → AreLimits core.application.generation.limits → (s : Twice) → KeepsTablesTwice (identity_of_two e) s t → IsRunningTwice e.fingerprint core s
   copies_run applies facts limits s keeps = record {
@@ -146,6 +147,12 @@ module _ (U : Type 0) (e : Errand) (a : Both) where
   no_reason live.Spent refused other r is = cc
   no_reason live.Memory refused other r is = cc
 
+-- ---- a stop at once
+
+-- what a stop now may leave, one since the call may leave too
+pub now_two : (a b : Both) (lb : ℕ → List ℕ → List ℕ → List ℕ → Type 0) → ((t u : ℕ) (c d out : List ℕ) → IsTrue b.told → t ≤ u → lb u c d out → lb t c d out) → (IsTrue b.told → lb b.moment b.first.holds b.second.holds b.sent) → b.told ≡ a.told → a.moment ≤ b.moment → IsTrue a.told → lb a.moment b.first.holds b.second.holds b.sent
+now_two a b lb earlier here same le told = let told_b = subst IsTrue (sym same) told in earlier a.moment b.moment b.first.holds b.second.holds b.sent told_b le (here told_b)
+
 -- ---- both files
 
 module _ (e : Errand) (base : List ℕ) (j : TypingState) (a m : Both) (la lm : ℕ → List ℕ → List ℕ → List ℕ → Type 0) (frame : FrameTwin a m) (sent : IsTrue a.told → m.sent ≡ a.sent)
@@ -156,39 +163,37 @@ module _ (e : Errand) (base : List ℕ) (j : TypingState) (a m : Both) (la lm : 
       → ((stored : List ℕ) → IsErrOf {T = U} (Err x) (opening.OtherGeneration stored) → IsTrue a.told → IsTwoOfOtherTexts stored e.fingerprint a.first.holds a.second.holds)
       → ((n : ℕ) → IsErrOf {T = U} (Err x) (opening.Spent n) → IsTrue a.told → IsSpent e.application.generation e.fingerprint n a.first.holds a.second.holds)
       → (IsErrOf {T = U} (Err x) opening.Failed → RoseAt First a m ⊎ RoseAt Second a m) → ((IsErrOf {T = U} (Err x) opening.Failed → ⊥) → FineTwo a m)
-      → (IsTrue a.told → ((t : TableRows) → OpensTwo e a t → ⊥) → StaysAsItIs a m la lm) → (IsTrue a.told → MayAttachTwo base a m) → DoesLiveTwo e base r j j a m la lm
+      → (IsTrue a.told → ((t : TableRows) → OpensTwo e a t → ⊥) → StaysAsItIs a m la lm) → (IsTrue a.told → MayAttachTwo base a m) → (IsTrue a.told → lm a.moment m.first.holds m.second.holds m.sent) → DoesLiveTwo e base r j j a m la lm
   unfolding AreAnswered EachInTurn
-  unopened U x r gives refused other spent failed went still names = record {
-    opened = none_ok r _ _ gives;
-    refused = λ q is told. why_not_opened U e a x refused other spent q (handed r (of_opening x) (Refused q) gives is) told;
-    four = λ q is. four_opening x q (handed r (of_opening x) (Refused q) gives is);
-    failed = λ is. inr (failed (opening_failed U x (handed r (of_opening x) Failed gives is)));
-    failed_told = λ is told. inr (inr (failed (opening_failed U x (handed r (of_opening x) Failed gives is)), sent told));
-    fine = λ none. went (λ is. none (given r (of_opening x) Failed gives (ap of_opening (err_is U x opening.Failed is))));
-    input = λ is. absurd (opening_hears x (handed r (of_opening x) Input gives is));
-    heard = λ none. refl;
-    still = still;
-    lived = λ told t opens. record {
-      mended = None;
-      mended_was = λ half is. absurd cc;
-      lived = record {
-        exchanges = [];
-        answered = tt;
-        read = tt;
-        stops = λ rest first second out left. let o = any told rest t opens first second out left in silent_stop (identity_of_two e) t (acts_lived e t []) a m first second out o.0 o.1;
-        ends = none_ok r _ _ gives;
-      };
-    };
-    names = names;
-    named = none_ok r _ _ gives;
-    frame = frame;
-    typing = same_typing j;
-  }
+  unopened U x r gives refused other spent failed went still names now =
+      let stops : IsTrue a.told → (t : TableRows) → OpensTwo e a t → BothRest a la → (c d out : List ℕ) → lm a.moment c d out → IsStopOfRun (identity_of_two e) t (acts_lived e t []) a m c d out =
+      λ told t opens rest c d out left. let o = any told rest t opens c d out left in silent_stop (identity_of_two e) t (acts_lived e t []) a m c d out o.0 o.1 in
+      record {
+        opened = none_ok r _ _ gives;
+        refused = λ q is told. why_not_opened U e a x refused other spent q (handed r (of_opening x) (Refused q) gives is) told;
+        four = λ q is. four_opening x q (handed r (of_opening x) (Refused q) gives is);
+        failed = λ is. inr (failed (opening_failed U x (handed r (of_opening x) Failed gives is)));
+        failed_told = λ is told. inr (inr (failed (opening_failed U x (handed r (of_opening x) Failed gives is)), sent told));
+        fine = λ none. went (λ is. none (given r (of_opening x) Failed gives (ap of_opening (err_is U x opening.Failed is))));
+        input = λ is. absurd (opening_hears x (handed r (of_opening x) Input gives is));
+        heard = λ none. refl;
+        still = still;
+        lived = λ told t opens. record {
+          mended = None;
+          mended_was = λ half is. absurd cc;
+          lived = record { exchanges = []; answered = tt; read = tt; stops = stops told t opens; ends = none_ok r _ _ gives };
+          ended = λ rest. stops told t opens rest m.first.holds m.second.holds m.sent (now told);
+        };
+        names = names;
+        named = none_ok r _ _ gives;
+        frame = frame;
+        typing = same_typing j;
+      }
 
   -- they are opened, and lines are typed over them
   module _ (s : Twice) (t : TableRows) (some : IsOpen s) (suits : Suits e.application.generation t) (opens : IsTrue a.told → OpensTwo e a t) (used : IsTrue a.told → (half : Half) → IsInUse half s ⊎ (s.lost ≡ Some half)) (went : FineTwo a m) (fine : (half : Half) → IsInUse half s → SameFaultsAt half a m)
       (lost : (half : Half) → s.lost ≡ Some half → RoseAt half a m) (mended : IsTrue a.told → (half : Half) → s.mended ≡ Some half → WasBehind half a) (mended_all : IsTrue a.told → (half : Half) → WasBehind half a → (s.mended ≡ Some half) ⊎ (s.lost ≡ Some half)) (attaches : IsTrue a.told → AttachesBoth base a m)
-      (b : Both) (lb : ℕ → List ℕ → List ℕ → List ℕ → Type 0) (j' : TypingState) (typing : SameTyping j j') (on : FrameTwice m b) (durable : durable_of (begun e t) ≡ t) where
+      (b : Both) (lb : ℕ → List ℕ → List ℕ → List ℕ → Type 0) (j' : TypingState) (typing : SameTyping j j') (on : FrameTwice m b) (durable : durable_of (begun e t) ≡ t) (now : IsTrue a.told → lb a.moment b.first.holds b.second.holds b.sent) where
     told_m : IsTrue a.told → IsTrue m.told
     told_m told = subst IsTrue (sym frame.told) told
 
@@ -212,22 +217,25 @@ module _ (e : Errand) (base : List ℕ) (j : TypingState) (a m : Both) (la lm : 
       }
 
     lived_as : (result : Result Unit LiveError) → LivedTwice (identity_of_two e) s (begun e t) j m b lm lb result → (IsDone : Type 0 → Type 0) → ((P Q : Type 0) → (P → Q) → OnOk result P → IsDone Q) → IsTrue a.told → LivedWholeTwo IsDone e t j a b la lb
-    lived_as result h IsDone done told = record {
-      mended = s.mended;
-      mended_was = mended told;
-      lived = record {
-        exchanges = h.exchanges;
-        answered = h.answered;
-        read = each_more _ _ h.exchanges (λ before x behind all r. turn told before x behind r) [] h.exchanges refl h.read;
-        stops = λ rest first second out left.
-            stop_of_run (identity_of_two e) s t (acts_lived e t h.exchanges) a m b frame on lost (used told) (sent told) (mended told) la lm lb (told_m told) (any told rest t (opens told))
-            (subst (λ (u : TableRows). WithinTwice (identity_of_two e) s u (acts_lived e t h.exchanges) m b lm lb) durable h.stops) first second out left;
-        ends = done _ _ (λ end. (
-          record { seen = end.0.seen; sent = end.0.sent ∙ ap (λ (l : List ℕ). l ++ bytes_of (lines_for mended_line s.mended ++ acts_of_session (begun e t) h.exchanges)) (sent told); none = end.0.none },
-          ran_from (identity_of_two e) s t (acts_lived e t h.exchanges) a m b frame on lost (used told) (sent told) (mended told) lb fine (mended_all told) (subst (λ (u : TableRows). RanTwice (identity_of_two e) s u (acts_lived e t h.exchanges) m b lb) durable end.1),
-        )) h.ends;
-      };
-    }
+    lived_as result h IsDone done told =
+        let stops : BothRest a la → (c d out : List ℕ) → lb a.moment c d out → IsStopOfRun (identity_of_two e) t (acts_lived e t h.exchanges) a b c d out = λ rest c d out left.
+        stop_of_run (identity_of_two e) s t (acts_lived e t h.exchanges) a m b frame on lost (used told) (sent told) (mended told) la lm lb (told_m told) (any told rest t (opens told))
+        (subst (λ (u : TableRows). WithinTwice (identity_of_two e) s u (acts_lived e t h.exchanges) m b lm lb) durable h.stops) c d out left in
+        record {
+          mended = s.mended;
+          mended_was = mended told;
+          lived = record {
+            exchanges = h.exchanges;
+            answered = h.answered;
+            read = each_more _ _ h.exchanges (λ before x behind all r. turn told before x behind r) [] h.exchanges refl h.read;
+            stops = stops;
+            ends = done _ _ (λ end. (
+              record { seen = end.0.seen; sent = end.0.sent ∙ ap (λ (l : List ℕ). l ++ bytes_of (lines_for mended_line s.mended ++ acts_of_session (begun e t) h.exchanges)) (sent told); none = end.0.none },
+              ran_from (identity_of_two e) s t (acts_lived e t h.exchanges) a m b frame on lost (used told) (sent told) (mended told) lb fine (mended_all told) (subst (λ (u : TableRows). RanTwice (identity_of_two e) s u (acts_lived e t h.exchanges) m b lb) durable end.1),
+            )) h.ends;
+          };
+          ended = λ rest. stops rest b.first.holds b.second.holds b.sent (now told);
+        }
 
     opened_at : (r : Result Unit SessionError) (result : Result Unit LiveError) → LivedTwice (identity_of_two e) s (begun e t) j m b lm lb result → ((P Q : Type 0) → (P → Q) → OnOk result P → OnOk r Q) → IsTrue a.told → (u : TableRows) → OpensTwo e a u → LivedWholeTwo (λ Done. OnOk r Done) e u j a b la lb
     opened_at r result h done told u opens_u =

@@ -7,6 +7,7 @@ use Rattle.std.specs.Result.{result_and}
 use Rattle.kd_device.specs.Twin.{Both}
 use Rattle.kd_device.specs.declared.half.Half.{Half}
 use Rattle.kd_records.specs.Identity.{Identity}
+use Rattle.kd_records.specs.declared.content.Patch.{Patch}
 use Rattle.kdcs_types.specs.declared.act.Act.{Act}
 use Rattle.kdcs_types.specs.Tables.{TableRows}
 use Rattle.abstract_monitor.specs.Trace.{bytes_of, tables_after}
@@ -59,7 +60,7 @@ module _ (s0 s : Twice) (b0 a b : Both) (lb : ℕ → List ℕ → List ℕ → 
 
 module _ {T : Type 0} (both : T → Both) (leaves : T → ℕ → List ℕ → List ℕ → List ℕ → Type 0) (s0 s : Twice) (b0 : Both) (x : T) (copies : s0 ≡ s) (begins : b0 ≡ both x) (i : Identity) (identity : identity_of s ≡ one_more i) (k : TwinKept T) (made : k ≡ record { twin = x; store = s; identity = i })
     (k' : TwinKept T) (y : T) (back : y ≡ k'.twin) (since : IsSinceStart s0 b0 (both k'.twin) k'.identity k'.store) (fingerprint : List ℕ) (c : CoreValue) (running : IsRunningTwice fingerprint c s) (j : TypingState) (result : Result Unit LiveError)
-    (talked : Talked stands_kept fingerprint c j k'.identity (content_of k'.store) (file_kept k'.identity k'.store (both k'.twin)) (state_kept s0 b0 (both k.twin)) (state_kept s0 b0 (both k'.twin)) (leaves_kept s0 b0 (both k.twin) (leaves k.twin)) (leaves_kept s0 b0 (both k'.twin) (leaves k'.twin)) result)
+    {most : Identity → Patch → ℕ} (talked : Talked stands_kept most fingerprint c j k'.identity (content_of k'.store) (file_kept k'.identity k'.store (both k'.twin)) (state_kept s0 b0 (both k.twin)) (state_kept s0 b0 (both k'.twin)) (leaves_kept s0 b0 (both k.twin) (leaves k.twin)) (leaves_kept s0 b0 (both k'.twin) (leaves k'.twin)) result)
     (told : IsTrue (both x).told) where
   abbrev acts : List Act
   acts = acts_of_session c talked.exchanges

@@ -32,7 +32,8 @@ pub record EndsLive (e : Errand) (base : List ℕ) (i j : TypingState) (a b : St
   -- is at its end, and all was done
   pub accepted : IsTrue a.told → (t : TableRows) → Opens e a.holds t → IsOneOf (0 ∷ 5 ∷ 7 ∷ []) status
   pub opened : status ≡ 0 → IsTrue a.told → (t : TableRows) × Opens e a.holds t
-  pub lived : IsTrue a.told → Only a.holds a la → (t : TableRows) → Opens e a.holds t → LivedWhole (λ Done. status ≡ 0 → Done) e t i a b lb
+  -- as the call left them, the bytes sent and the file are such a cut, whatever the status; at 5 and 7 only the last line that was read may be undone; at 5 the input failed, the line, or the disk where an act asks for it
+  pub lived : IsTrue a.told → Only a.holds a la → (t : TableRows) → Opens e a.holds t → LivedWhole (λ Done. status ≡ 0 → Done) (λ Stopped. IsOneOf (5 ∷ 7 ∷ []) status → Stopped) (λ Halted. status ≡ 5 → Rose i.faults j.faults ⊎ Halted) e t i a b lb
   -- the file BASE.KDCA, and no other, was attached
   pub names : IsTrue a.told → MayAttach (file_name base) a b
   pub attached : status ≡ 0 → IsTrue a.told → b.names ≡ a.names ++ file_name base ∷ []

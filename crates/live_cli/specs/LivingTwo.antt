@@ -97,3 +97,5 @@ pub record LivedWholeTwo (IsDone : Type 0 → Type 0) (e : Errand) (t : TableRow
   pub lived : Lived (begun e t) (AreReadTwo (λ half. RoseAt half a b → ⊥) (λ half. RoseAt half a b) (identity_of_two e) (begun e t) y mended a b lb)
       (λ exchanges. BothRest a la → (first second out : List ℕ) → lb a.moment first second out → IsStopOfRun (identity_of_two e) t (acts_lived e t exchanges) a b first second out)
       (λ exchanges. IsDone (IsAtEnd (begun e t) y mended a exchanges × RanTwo (identity_of_two e) t (acts_lived e t exchanges) a b lb))
+  -- as the call left them, what was sent and the two files are such a cut, whatever the status
+  pub ended : BothRest a la → IsStopOfRun (identity_of_two e) t (acts_lived e t lived.exchanges) a b b.first.holds b.second.holds b.sent

@@ -12,7 +12,7 @@ ghost use Rattle.call_parts.specs.Asking.{gen_errand};
 ghost use Rattle.call_parts.specs.Leaving.{CallFailed, MayAttach};
 ghost use Rattle.call_parts.specs.Opening.{Opens, identity_of};
 ghost use Rattle.live_run.specs.Typing.{SameTyping};
-ghost use Rattle.live_cli.specs.{Ends.{EndsLive}, Living.{LivedFrom, LivedOver, LivedWhole}};
+ghost use Rattle.live_cli.specs.{Ends.{EndsLive}, Living.{LivedAnswering, LivedFrom, LivedOver}};
 
 use application_read::Application;
 use call_parts::{Work, open};
@@ -97,7 +97,7 @@ fn live_file<D: Device, I: Typing>(
     typing: &mut I,
 ) -> Result<(), LiveError>
     requires fit { IsFit work.application.generation work.application.units }
-    ensures lived { IsTrue (D.state device.old).told → Only (D.state device.old).holds (D.state device.old) (D.leaves device.old) → (t : TableRows) → Opens (gen_errand work) (D.state device.old).holds t → LivedWhole (λ Done. OnOk result Done) (gen_errand work) t (I.typing typing.old) (D.state device.old) (D.state device.new) (D.leaves device.new) }
+    ensures lived { IsTrue (D.state device.old).told → Only (D.state device.old).holds (D.state device.old) (D.leaves device.old) → (t : TableRows) → Opens (gen_errand work) (D.state device.old).holds t → LivedAnswering result (gen_errand work) t (I.typing typing.old) (D.state device.old) (D.state device.new) (D.leaves device.new) }
     ensures opened { OnOk result (IsTrue (D.state device.old).told → (t : TableRows) × Opens (gen_errand work) (D.state device.old).holds t) }
     ensures refused { IsErrOf result LiveError.NotKdcfile → IsTrue (D.state device.old).told → IsRefused work.application.generation work.fingerprint (D.state device.old).holds }
     ensures other { (stored : List ℕ) → IsErrOf result (LiveError.OtherGeneration stored) → IsTrue (D.state device.old).told → IsOfOtherTexts stored work.fingerprint (D.state device.old).holds }

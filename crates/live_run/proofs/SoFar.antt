@@ -1,5 +1,5 @@
 -- A session so far, and one line more.
-use Rattle.std.proofs.Common.{◌≡◌, ◌⊎◌, inl, inr, ⊎_elim, ℕ, ◌+◌, List, [], ◌∷◌, ◌++◌, length, length-append, refl, sym, ap, subst, ◌∙◌, append_assoc, arith}
+use Rattle.std.proofs.Common.{◌≡◌, ◌≤◌, ◌⊎◌, inl, inr, ⊎_elim, ℕ, ◌+◌, List, [], ◌∷◌, ◌++◌, length, length-append, refl, sym, ap, subst, ◌∙◌, append_assoc, arith}
 use Rattle.std.specs.Prelude.{Bool, true, IsTrue, Option, Some, None, Result, Ok, Err, MatchOption, IsErrAnd, IsErrOf}
 use Rattle.std.proofs.lemmas.List.{append-nil}
 use Rattle.kd_base.specs.Limits.{longest_text}
@@ -7,39 +7,43 @@ use Rattle.kd_device.specs.Device.{State, LeavesOnly, Rose}
 use Rattle.kd_device.specs.TimeLaws.{leaves_weaker, rose_either, told_after}
 use Rattle.kd_records.specs.Identity.{Identity}
 use Rattle.kd_records.specs.declared.content.Content.{Content}
+use Rattle.kd_records.specs.declared.content.Patch.{Patch}
 use Rattle.kdcs_types.specs.declared.act.Act.{Act}
 use Rattle.kdcs_types.specs.Tables.{TableRows}
 use Rattle.abstract_monitor.specs.Bytes.{Bytes}
 use Rattle.abstract_monitor.specs.State.{Application, State as MonitorState}
 use Rattle.abstract_monitor.specs.Trace.{bytes_of, tables_after}
+use Rattle.abstract_monitor.specs.declared.command.Command.TheVariants.{Restart}
 use Rattle.laws_of_states.specs.Cut.{SentBy}
 use Rattle.laws_of_runs.specs.ListsLaws.{tables_both}
 use Rattle.monitor_core.specs.CoreSteps.{durable_of}
 use Rattle.monitor_core.specs.CoreValue.{CoreValue}
-use Rattle.device_acts.specs.Acting.{DidActs, IsCutOf, IsKeptBy, JoinsParts, WithinActs}
+use Rattle.device_acts.specs.Acting.{DidActs, IsCutOf, IsKeptBy, JoinsParts, WithinActs, WritesWithin}
 use Rattle.device_acts.specs.ActingLaws.{bytes_joined, cut_none, cut_of_part, halts_within, running_start, running_within}
 use Rattle.device_acts.specs.Stands.{identity_for}
-use Rattle.device_run.specs.Running.{identity_of}
+use Rattle.device_acts.specs.WritingLaws.{all_begun, begun_within, writes_most}
+use Rattle.device_run.specs.Running.{SaysNothing, commits_most_with, identity_of}
 use Rattle.device_run.specs.Keeping.{IsRunningWith, KeepsRows, StandsForRows}
 use Rattle.device_run.specs.SteppingLaws.{rows_stand}
-use Rattle.device_run.specs.TablesLaws.{tables_go}
+use Rattle.device_run.specs.TablesLaws.{commits_add, most_of, tables_go}
 use Rattle.typed_lines.specs.Typing.{typed_of}
 use Rattle.live_run.specs.Answers.{IsAnswer}
-use Rattle.live_run.specs.Performing.{DidSession, TookLine, session_at}
-use Rattle.live_run.specs.Sessions.{AreAnswered, Exchange, Session, acts_of_line, auto_after, session_acts, session_after, session_by, session_from}
-use Rattle.live_run.specs.Talking.{AreReadInTurn, EachInTurn, ReadInTurn, Talked, acts_of_session}
+use Rattle.live_run.specs.Performing.{DidSession, RestartsFirst, TookLine, session_at}
+use Rattle.live_run.specs.Sessions.{AreAnswered, Exchange, Session, acts_of_line, auto_after, commands_of_line, session_acts, session_after, session_by, session_from}
+use Rattle.live_run.specs.Talking.{AreReadInTurn, EachInTurn, EndsEarly, ReadInTurn, Talked, acts_of_session}
 use Rattle.live_run.specs.Typing.{IsTyped, ReadsNext, SameTyping, TypingState}
 use Rattle.live_run.specs.declared.error.LiveError.{LiveError}
 use Rattle.live_run.specs.declared.error.LiveError.TheVariants as live
 use Rattle.live_run.proofs.SessionLaws.{acts_both, acts_of_none, acts_of_one, answered_more, answered_none, by_both, by_none, by_one, number_by}
 
 -- the lines that were read so far are done: a is the keeper at the start, and b the keeper now
-pub record SoFar (stands : Identity → Content → List ℕ → Type 0) (fine : State → State → Type 0) (fingerprint : List ℕ) (c : CoreValue) (i i' : TypingState) (d : CoreValue) (auto : Bool) (number : ℕ) (j : Identity) (y : Content) (file : List ℕ → Type 0) (a b : State) (la lb : ℕ → List ℕ → List ℕ → Type 0) : Type 0 where
+pub record SoFar (stands : Identity → Content → List ℕ → Type 0) (most : Identity → Patch → ℕ) (fine : State → State → Type 0) (fingerprint : List ℕ) (c : CoreValue) (i i' : TypingState) (d : CoreValue) (auto : Bool) (number : ℕ) (j : Identity) (y : Content) (file : List ℕ → Type 0) (a b : State) (la lb : ℕ → List ℕ → List ℕ → Type 0) : Type 0 where
   pub exchanges : List Exchange
   pub answered : IsTrue a.told → AreAnswered c.application (session_from c.state) exchanges
   pub read : AreReadInTurn stands fingerprint c i a b lb [] exchanges
   pub within : WithinActs tables_after (StandsForRows stands (identity_of fingerprint c)) (durable_of c) (acts_of_session c exchanges) a b la lb
   pub did : DidSession fine fingerprint c (acts_of_session c exchanges) (session_by c.application (session_from c.state) exchanges).state d j y file a b lb
+  pub put : IsTrue a.told → b.put ≤ a.put + commits_most_with most (identity_of fingerprint c) (acts_of_session c exchanges)
   pub auto_is : (session_by c.application (session_from c.state) exchanges).auto ≡ auto
   pub count : length exchanges ≡ number
   pub typing : SameTyping i i'
@@ -78,8 +82,8 @@ module _ (stands : TableRows → Bytes → Type 0) where
 
 -- ---- at the start
 
-module _ (stands : Identity → Content → List ℕ → Type 0) (fine : State → State → Type 0) (on : JoinsParts fine) (fingerprint : List ℕ) where
-  pub so_far_start : (c : CoreValue) (i : TypingState) (j : Identity) (y : Content) (file : List ℕ → Type 0) (a : State) (la : ℕ → List ℕ → List ℕ → Type 0) → IsRunningWith fingerprint c j y → (IsTrue a.told → IsKeptBy file a la) → SoFar stands fine fingerprint c i i c true 0 j y file a a la la
+module _ (stands : Identity → Content → List ℕ → Type 0) (most : Identity → Patch → ℕ) (fine : State → State → Type 0) (on : JoinsParts fine) (fingerprint : List ℕ) where
+  pub so_far_start : (c : CoreValue) (i : TypingState) (j : Identity) (y : Content) (file : List ℕ → Type 0) (a : State) (la : ℕ → List ℕ → List ℕ → Type 0) → IsRunningWith fingerprint c j y → (IsTrue a.told → IsKeptBy file a la) → SoFar stands most fine fingerprint c i i c true 0 j y file a a la la
   unfolding EachInTurn
   so_far_start c i j y file a la running kept =
       let v = session_from c.state in
@@ -97,11 +101,36 @@ module _ (stands : Identity → Content → List ℕ → Type 0) (fine : State �
           tables = λ told. sym (tables_go.none (durable_of c)) ∙ ap (λ (l : List Act). tables_after (durable_of c) l) (sym none);
           acts = subst (λ (l : List Act). DidActs fine file l a a la) (sym none) start.sent;
         };
+        put = λ told. omega arith;
         auto_is = ap (λ (w : Session). w.auto) (by_none c.application v);
         count = refl;
         typing = record { told = refl; types = refl };
         typed = λ told. omega arith;
       }
+
+-- ---- between two lines
+
+module _ (stands : Identity → Content → List ℕ → Type 0) (most : Identity → Patch → ℕ) (fine : State → State → Type 0) (fingerprint : List ℕ) (c : CoreValue) (i i' : TypingState) (d : CoreValue) (auto : Bool) (number : ℕ) (j : Identity) (y : Content) (file : List ℕ → Type 0) (a b : State) (la lb : ℕ → List ℕ → List ℕ → Type 0) (so : SoFar stands most fine fingerprint c i i' d auto number j y file a b la lb)
+    (means : (image : List ℕ) → file image → stands j y image) where
+  abbrev done_rows : TableRows → Bytes → Type 0
+  done_rows = StandsForRows stands (identity_of fingerprint c)
+
+  abbrev done_acts : List Act
+  done_acts = acts_of_session c so.exchanges
+
+  -- what a stop leaves there
+  pub rested : IsTrue a.told → (image : List ℕ) → lb b.moment image b.sent → done_rows (tables_after (durable_of c) done_acts) image
+  rested told image left =
+      subst (λ (t : TableRows). done_rows t image) (so.did.tables told)
+      (subst (λ (z : Application). StandsForRows stands (identity_for z.generation fingerprint) (durable_of d) image) so.did.application
+      (rows_stand fingerprint d j y so.did.running stands image (means image (so.did.acts.rest told image left))))
+
+  pub all_written : WritesWithin tables_after done_rows (durable_of c) (commits_most_with most (identity_of fingerprint c)) done_acts a b lb
+  all_written = λ told image left.
+      all_begun tables_after tables_go done_rows (durable_of c) (commits_most_with most (identity_of fingerprint c)) done_acts a b image (so.did.acts.sent told) (so.put told) (rested told image left)
+
+  pub ended_between : EndsEarly done_rows c so.exchanges a b lb
+  ended_between = λ told image left. inl (record { sent = so.did.acts.sent told; file = rested told image left })
 
 -- ---- one line more
 
@@ -109,9 +138,10 @@ auto_of_after : (app : Application) (v : Session) (line : List ℕ) → (session
 unfolding session_after
 auto_of_after app v line = refl
 
-module _ (stands : Identity → Content → List ℕ → Type 0) (fine : State → State → Type 0) (on : JoinsParts fine) (fingerprint : List ℕ) (c : CoreValue) (i i' i'' : TypingState) (d : CoreValue) (auto : Bool) (number : ℕ) (j : Identity) (y : Content) (file : List ℕ → Type 0) (a b : State) (la lb : ℕ → List ℕ → List ℕ → Type 0) (so : SoFar stands fine fingerprint c i i' d auto number j y file a b la lb)
+module _ (stands : Identity → Content → List ℕ → Type 0) (most : Identity → Patch → ℕ) (fine : State → State → Type 0) (on : JoinsParts fine) (fingerprint : List ℕ) (c : CoreValue) (i i' i'' : TypingState) (d : CoreValue) (auto : Bool) (number : ℕ) (j : Identity) (y : Content) (file : List ℕ → Type 0) (a b : State) (la lb : ℕ → List ℕ → List ℕ → Type 0) (so : SoFar stands most fine fingerprint c i i' d auto number j y file a b la lb)
     (means : (image : List ℕ) → file image → stands j y image) (sent_now : (image out : List ℕ) → IsTrue b.told → lb b.moment image out → out ≡ b.sent) (line : List ℕ) (same : SameTyping i' i'') (reads : IsTrue i'.told → ReadsNext longest_text i' i'' b line)
-    (j' : Identity) (y' : Content) (file' : List ℕ → Type 0) (e : State) (le : ℕ → List ℕ → List ℕ → Type 0) (result : Result CoreValue LiveError) (took : TookLine stands fine fingerprint d auto number line j' y' file' b e lb le result) where
+    (j' : Identity) (y' : Content) (file' : List ℕ → Type 0) (e : State) (le : ℕ → List ℕ → List ℕ → Type 0) (result : Result CoreValue LiveError) (took : TookLine stands most fine fingerprint d auto number line j' y' file' b e lb le result) (earlier : (t u : ℕ) (image out : List ℕ) → IsTrue e.told → t ≤ u → le u image out → le t image out)
+    (left_now : IsTrue e.told → (image : List ℕ) × le e.moment image e.sent) where
   abbrev app : Application
   app = c.application
 
@@ -165,6 +195,24 @@ module _ (stands : Identity → Content → List ℕ → Type 0) (fine : State �
       running_within fine on tables_after tables_go rows file (durable_of c) (durable_of d) all acts here [] a b e la lb le so.did.tables split
       (record { within = within_longer rows fine on (durable_of c) acts (here ++ []) all a b la lb split so.within; sent = so.did.acts }) step
 
+  abbrev bound : TableRows → List Act → ℕ
+  bound = most_of most (identity_of fingerprint c)
+
+  step_written : WritesWithin tables_after rows (durable_of d) (bound (durable_of d)) here b e le
+  step_written = subst (λ (z : Application). WritesWithin tables_after (StandsForRows stands (identity_for z.generation fingerprint)) (durable_of d) (commits_most_with most (identity_for z.generation fingerprint)) here b e le) so.did.application took.took.written
+
+  more_written : WritesWithin tables_after rows (durable_of c) (bound (durable_of c)) all a e le
+  more_written = λ told image left.
+      begun_within tables_after tables_go rows bound (commits_add most (identity_of fingerprint c)) (durable_of c) (durable_of d) acts here a b e (so.did.tables told) (so.put told) all [] image (so.did.acts.sent told) (step_written (told_then told) image left) (split told)
+
+  told_end : IsTrue a.told → IsTrue e.told
+  told_end told = told_after a e more_within.frame told
+
+  more_put : IsTrue a.told → e.put ≤ a.put + bound (durable_of c) all
+  more_put told =
+      let some = left_now (told_end told) in
+      writes_most tables_after bound (commits_add most (identity_of fingerprint c)) (durable_of c) all a e (more_written told some.0 some.1).writes
+
   more_answered : IsTrue a.told → AreAnswered app v (xs ++ x ∷ [])
   more_answered told = answered_more app v xs x (so.answered told) (subst (λ (s : MonitorState). IsAnswer s line took.answer) (so.did.state told) took.answered)
 
@@ -176,18 +224,11 @@ module _ (stands : Identity → Content → List ℕ → Type 0) (fine : State �
       subst (λ (l : List Act). IsCutOf tables_after rows (tables_after (durable_of c) acts) l b.sent image out) (here_is told)
       (subst (λ (t : TableRows). IsCutOf tables_after rows t here b.sent image out) (so.did.tables told) cut))
 
-  -- where nothing was done since
-  rested : IsTrue a.told → (image : List ℕ) → lb b.moment image b.sent → rows (tables_after (durable_of c) acts) image
-  rested told image left =
-      subst (λ (t : TableRows). rows t image) (so.did.tables told)
-      (subst (λ (z : Application). StandsForRows stands (identity_for z.generation fingerprint) (durable_of d) image) so.did.application
-      (rows_stand fingerprint d j y so.did.running stands image (means image (so.did.acts.rest told image left))))
-
   read_cut : IsTrue a.told → (image out : List ℕ) → lb b.moment image out → IsCutOf tables_after rows (tables_after (durable_of c) acts) (session_acts app now (x ∷ [])) b.sent image out
   read_cut told image out left =
       let is = sent_now image out (told_then told) left in
       subst (λ (o : List ℕ). IsCutOf tables_after rows (tables_after (durable_of c) acts) (session_acts app now (x ∷ [])) b.sent image o) (sym is)
-      (cut_none tables_after tables_go rows (tables_after (durable_of c) acts) (session_acts app now (x ∷ [])) b.sent image (rested told image (subst (λ (o : List ℕ). lb b.moment image o) is left)))
+      (cut_none tables_after tables_go rows (tables_after (durable_of c) acts) (session_acts app now (x ∷ [])) b.sent image (rested stands most fine fingerprint c i i' d auto number j y file a b la lb so means told image (subst (λ (o : List ℕ). lb b.moment image o) is left)))
 
   read_typed : IsTrue i.told → IsTyped i longest_text (i.typed + length xs) b line
   read_typed told =
@@ -278,13 +319,14 @@ module _ (stands : Identity → Content → List ℕ → Type 0) (fine : State �
       };
     }
 
-    pub so_far_more : (next : Bool) → next ≡ auto_after auto (typed_of line) → SoFar stands fine fingerprint c i i'' f next (number + 1) j' y' file' a e la le
+    pub so_far_more : (next : Bool) → next ≡ auto_after auto (typed_of line) → SoFar stands most fine fingerprint c i i'' f next (number + 1) j' y' file' a e la le
     so_far_more next set = record {
       exchanges = xs ++ x ∷ [];
       answered = more_answered;
       read = read_more [] xs refl so.read;
       within = more_within;
       did = more_did;
+      put = more_put;
       auto_is = ap (λ (w : Session). w.auto) (by_both app v xs (x ∷ []) ∙ by_one app now x) ∙ auto_of_after app now line ∙ ap (λ (on : Bool). auto_after on (typed_of line)) so.auto_is ∙ sym set;
       count = let sum = length-append xs (x ∷ []) in omega (arith, sum, so.count);
       typing = record { told = same.told ∙ so.typing.told; types = same.types ∙ so.typing.types };
@@ -293,12 +335,34 @@ module _ (stands : Identity → Content → List ℕ → Type 0) (fine : State �
 
   -- ---- or it was not
 
-  pub talked_failed : (why : LiveError) → result ≡ Err why → (k : Identity) (w : Content) (file'' : List ℕ → Type 0) → Talked stands fingerprint c i k w file'' a e la le (Err why)
+  part_now : (told : IsTrue a.told) (image : List ℕ) → le e.moment image e.sent → IsCutOf tables_after rows (tables_after (durable_of c) acts) (acts_of_line app now line took.answer) (a.sent ++ bytes_of acts) image e.sent
+  part_now told image left =
+      subst (λ (l : List Act). IsCutOf tables_after rows (tables_after (durable_of c) acts) l (a.sent ++ bytes_of acts) image e.sent) (acts_of_one app now x)
+      (subst (λ (s : List ℕ). IsCutOf tables_after rows (tables_after (durable_of c) acts) (session_acts app now (x ∷ [])) s image e.sent) (so.did.acts.sent told)
+      (read_now.stored told image e.sent (earlier b.moment e.moment image e.sent (told_end told) step.frame.moment left)))
+
+  module _ (why : LiveError) (failed : result ≡ Err why) where
+    asks_restart : IsTrue b.told → commands_of_line d.application (session_at d auto number) line ≡ Restart ∷ [] → SaysNothing b e
+    asks_restart = subst (λ (r : Result CoreValue LiveError). RestartsFirst (commands_of_line d.application (session_at d auto number) line) b e r) failed took.restart
+
+    restart_now : IsTrue a.told → commands_of_line app now line ≡ Restart ∷ [] → (e.sent ≡ a.sent ++ bytes_of acts) ⊎ Rose a.line_faults e.line_faults
+    restart_now told is = silent (asks_restart (told_then told) ((λ k. commands_of_line (so.did.application k) (at_now told k) line) ∙ is))
+      where
+        silent : SaysNothing b e → (e.sent ≡ a.sent ++ bytes_of acts) ⊎ Rose a.line_faults e.line_faults
+        silent (inl same) = inl (same ∙ so.did.acts.sent told)
+        silent (inr rose) = let frame = so.within.frame.line_faults in inr (omega (arith, frame, rose))
+
+    ended_within : EndsEarly rows c (xs ++ x ∷ []) a e le
+    ended_within = λ told image left. inr (record { before = xs; last = x; split = refl; part = part_now told image left; restart = restart_now told })
+
+  pub talked_failed : (why : LiveError) → result ≡ Err why → (k : Identity) (w : Content) (file'' : List ℕ → Type 0) → Talked stands most fingerprint c i k w file'' a e la le (Err why)
   talked_failed why is k w file'' = record {
     exchanges = xs ++ x ∷ [];
     answered = more_answered;
     read = read_more [] xs refl so.read;
     within = more_within;
+    written = more_written;
+    stopped = ended_within why is;
     halted = λ failed. halts_within all acts here [] a b e so.within.frame so.did.acts.sent split (took.took.halted (is ∙ cc));
     done = tt;
   }
@@ -317,25 +381,29 @@ module _ (stands : Identity → Content → List ℕ → Type 0) (fine : State �
 
 -- ---- the ends
 
-module _ (stands : Identity → Content → List ℕ → Type 0) (fine : State → State → Type 0) (fingerprint : List ℕ) (c : CoreValue) (i i' : TypingState) (d : CoreValue) (auto : Bool) (number : ℕ) (j : Identity) (y : Content) (file : List ℕ → Type 0) (a b : State) (la lb : ℕ → List ℕ → List ℕ → Type 0) (so : SoFar stands fine fingerprint c i i' d auto number j y file a b la lb) where
+module _ (stands : Identity → Content → List ℕ → Type 0) (most : Identity → Patch → ℕ) (fine : State → State → Type 0) (fingerprint : List ℕ) (c : CoreValue) (i i' : TypingState) (d : CoreValue) (auto : Bool) (number : ℕ) (j : Identity) (y : Content) (file : List ℕ → Type 0) (a b : State) (la lb : ℕ → List ℕ → List ℕ → Type 0) (so : SoFar stands most fine fingerprint c i i' d auto number j y file a b la lb) (means : (image : List ℕ) → file image → stands j y image) where
   -- no line was read, for this error
-  pub talked_until : (why : LiveError) → (why ≡ live.Failed → ⊥) → Talked stands fingerprint c i j y file a b la lb (Err why)
+  pub talked_until : (why : LiveError) → (why ≡ live.Failed → ⊥) → Talked stands most fingerprint c i j y file a b la lb (Err why)
   talked_until why none = record {
     exchanges = so.exchanges;
     answered = so.answered;
     read = so.read;
     within = so.within;
+    written = all_written stands most fine fingerprint c i i' d auto number j y file a b la lb so means;
+    stopped = ended_between stands most fine fingerprint c i i' d auto number j y file a b la lb so means;
     halted = λ is. absurd (none cc);
     done = tt;
   }
 
   -- the input is at its end
-  pub talked_out : (IsTrue i'.told → i'.types i'.typed b ≡ None) → Talked stands fingerprint c i j y file a b la lb (Ok tt)
+  pub talked_out : (IsTrue i'.told → i'.types i'.typed b ≡ None) → Talked stands most fingerprint c i j y file a b la lb (Ok tt)
   talked_out over = record {
     exchanges = so.exchanges;
     answered = so.answered;
     read = so.read;
     within = so.within;
+    written = all_written stands most fine fingerprint c i i' d auto number j y file a b la lb so means;
+    stopped = tt;
     halted = λ is. absurd cc;
     done = record {
       at_end = λ told.

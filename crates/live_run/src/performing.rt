@@ -7,7 +7,7 @@ ghost use Rattle.monitor_core.specs.CoreSteps.{turns_of};
 ghost use Rattle.device_acts.specs.Acting.{IsKeptBy};
 ghost use Rattle.device_run.specs.Keeping.{IsRunningWith};
 ghost use Rattle.typed_lines.specs.{Commands.{commands_in, refused_line}, Typing.{typed_of}};
-ghost use Rattle.live_run.specs.{Performing.{TookActs, TookAnswer, TookLine, session_at}, Sessions.{acts_said, acts_set, state_said}};
+ghost use Rattle.live_run.specs.{Performing.{RestartsFirst, TookActs, TookAnswer, TookLine, session_at}, Sessions.{acts_said, acts_set, commands_said, state_said}};
 
 use crate::answering::answer_of;
 use crate::counts::Counts;
@@ -67,7 +67,7 @@ fn say<K: Reopens>(
     requires running { IsRunningWith _fingerprint.now core (K.identity keeper.old) (K.kept keeper.old) }
     requires kept { IsTrue (K.state keeper.old).told → IsKeptBy (K.file keeper.old) (K.state keeper.old) (K.leaves keeper.old) }
     ensures ready { OnOk result (K.ready keeper.new) }
-    ensures took { TookActs K.stands K.fine _fingerprint.now core (Emit text.now ∷ []) core.state (K.identity keeper.new) (K.kept keeper.new) (K.file keeper.new) (K.state keeper.old) (K.state keeper.new) (K.leaves keeper.old) (K.leaves keeper.new) result }
+    ensures took { TookActs K.stands K.commit_most K.fine _fingerprint.now core (Emit text.now ∷ []) core.state (K.identity keeper.new) (K.kept keeper.new) (K.file keeper.new) (K.state keeper.old) (K.state keeper.new) (K.leaves keeper.old) (K.leaves keeper.new) result }
     ensures place { K.place keeper.new ≡ K.place keeper.old }
 {
     keeper.say(text)?;
@@ -88,7 +88,8 @@ fn perform<K: Reopens>(
     requires kept { IsTrue (K.state keeper.old).told → IsKeptBy (K.file keeper.old) (K.state keeper.old) (K.leaves keeper.old) }
     requires names { IsScriptOf core.application commands.now }
     ensures ready { OnOk result (K.ready keeper.new) }
-    ensures took { TookActs K.stands K.fine fingerprint.now core (acts_of (history core.application core.state commands.now)) (state_after core.state (history core.application core.state commands.now)) (K.identity keeper.new) (K.kept keeper.new) (K.file keeper.new) (K.state keeper.old) (K.state keeper.new) (K.leaves keeper.old) (K.leaves keeper.new) result }
+    ensures took { TookActs K.stands K.commit_most K.fine fingerprint.now core (acts_of (history core.application core.state commands.now)) (state_after core.state (history core.application core.state commands.now)) (K.identity keeper.new) (K.kept keeper.new) (K.file keeper.new) (K.state keeper.old) (K.state keeper.new) (K.leaves keeper.old) (K.leaves keeper.new) result }
+    ensures restart { RestartsFirst commands.now (K.state keeper.old) (K.state keeper.new) result }
     ensures place { K.place keeper.new ≡ K.place keeper.old }
 {
     if !may_do(core.parts().steps, commands) {
@@ -123,7 +124,7 @@ fn refuse<K: Reopens>(
     requires kept { IsTrue (K.state keeper.old).told → IsKeptBy (K.file keeper.old) (K.state keeper.old) (K.leaves keeper.old) }
     requires number { number + 1 < 2 ^ 64 }
     ensures ready { OnOk result (K.ready keeper.new) }
-    ensures took { TookActs K.stands K.fine fingerprint.now core (Emit (refused_line (number + 1) fault) ∷ []) core.state (K.identity keeper.new) (K.kept keeper.new) (K.file keeper.new) (K.state keeper.old) (K.state keeper.new) (K.leaves keeper.old) (K.leaves keeper.new) result }
+    ensures took { TookActs K.stands K.commit_most K.fine fingerprint.now core (Emit (refused_line (number + 1) fault) ∷ []) core.state (K.identity keeper.new) (K.kept keeper.new) (K.file keeper.new) (K.state keeper.old) (K.state keeper.new) (K.leaves keeper.old) (K.leaves keeper.new) result }
     ensures place { K.place keeper.new ≡ K.place keeper.old }
 {
     let text = refused_line(alloc, number + 1, fault)?;
@@ -146,7 +147,8 @@ fn do_script_line<K: Reopens>(
     requires kept { IsTrue (K.state keeper.old).told → IsKeptBy (K.file keeper.old) (K.state keeper.old) (K.leaves keeper.old) }
     requires number { number + 1 < 2 ^ 64 }
     ensures ready { OnOk result (K.ready keeper.new) }
-    ensures took { TookActs K.stands K.fine fingerprint.now core (acts_said core.application (session_at core auto number) (commands_in core.application.generation auto line.now)) (state_said core.application (session_at core auto number) (commands_in core.application.generation auto line.now)) (K.identity keeper.new) (K.kept keeper.new) (K.file keeper.new) (K.state keeper.old) (K.state keeper.new) (K.leaves keeper.old) (K.leaves keeper.new) result }
+    ensures took { TookActs K.stands K.commit_most K.fine fingerprint.now core (acts_said core.application (session_at core auto number) (commands_in core.application.generation auto line.now)) (state_said core.application (session_at core auto number) (commands_in core.application.generation auto line.now)) (K.identity keeper.new) (K.kept keeper.new) (K.file keeper.new) (K.state keeper.old) (K.state keeper.new) (K.leaves keeper.old) (K.leaves keeper.new) result }
+    ensures restart { RestartsFirst (commands_said (commands_in core.application.generation auto line.now)) (K.state keeper.old) (K.state keeper.new) result }
     ensures place { K.place keeper.new ≡ K.place keeper.old }
 {
     match commands_typed(alloc, &core.parts().generation, auto, line) {
@@ -170,7 +172,7 @@ fn answer<K: Reopens>(
     requires running { IsRunningWith fingerprint.now core (K.identity keeper.old) (K.kept keeper.old) }
     requires kept { IsTrue (K.state keeper.old).told → IsKeptBy (K.file keeper.old) (K.state keeper.old) (K.leaves keeper.old) }
     ensures ready { OnOk result (K.ready keeper.new) }
-    ensures took { TookAnswer K.stands K.fine fingerprint.now core question line.now (K.identity keeper.new) (K.kept keeper.new) (K.file keeper.new) (K.state keeper.old) (K.state keeper.new) (K.leaves keeper.old) (K.leaves keeper.new) result }
+    ensures took { TookAnswer K.stands K.commit_most K.fine fingerprint.now core question line.now (K.identity keeper.new) (K.kept keeper.new) (K.file keeper.new) (K.state keeper.old) (K.state keeper.new) (K.leaves keeper.old) (K.leaves keeper.new) result }
     ensures place { K.place keeper.new ≡ K.place keeper.old }
 {
     let text = answer_of(alloc, &core, counts, question, line)?;
@@ -191,7 +193,7 @@ fn set<K: Reopens>(
     requires kept { IsTrue (K.state keeper.old).told → IsKeptBy (K.file keeper.old) (K.state keeper.old) (K.leaves keeper.old) }
     requires number { number + 1 < 2 ^ 64 }
     ensures ready { OnOk result (K.ready keeper.new) }
-    ensures took { TookActs K.stands K.fine fingerprint.now core (acts_set number switch) core.state (K.identity keeper.new) (K.kept keeper.new) (K.file keeper.new) (K.state keeper.old) (K.state keeper.new) (K.leaves keeper.old) (K.leaves keeper.new) result }
+    ensures took { TookActs K.stands K.commit_most K.fine fingerprint.now core (acts_set number switch) core.state (K.identity keeper.new) (K.kept keeper.new) (K.file keeper.new) (K.state keeper.old) (K.state keeper.new) (K.leaves keeper.old) (K.leaves keeper.new) result }
     ensures place { K.place keeper.new ≡ K.place keeper.old }
 {
     match switch {
@@ -221,7 +223,7 @@ pub(crate) fn do_line<K: Reopens>(
     requires number { number + 1 < 2 ^ 64 }
     requires asks { asks ≡ typed_of line.now }
     ensures ready { OnOk result (K.ready keeper.new) }
-    ensures took { TookLine K.stands K.fine fingerprint.now core auto number line.now (K.identity keeper.new) (K.kept keeper.new) (K.file keeper.new) (K.state keeper.old) (K.state keeper.new) (K.leaves keeper.old) (K.leaves keeper.new) result }
+    ensures took { TookLine K.stands K.commit_most K.fine fingerprint.now core auto number line.now (K.identity keeper.new) (K.kept keeper.new) (K.file keeper.new) (K.state keeper.old) (K.state keeper.new) (K.leaves keeper.old) (K.leaves keeper.new) result }
     ensures place { K.place keeper.new ≡ K.place keeper.old }
 {
     match asks {

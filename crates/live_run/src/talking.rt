@@ -63,7 +63,7 @@ pub fn live_with<K: Reopens, I: Typing>(
     requires ready { K.ready keeper.old }
     requires running { IsRunningWith fingerprint.now core (K.identity keeper.old) (K.kept keeper.old) }
     requires kept { IsTrue (K.state keeper.old).told → IsKeptBy (K.file keeper.old) (K.state keeper.old) (K.leaves keeper.old) }
-    ensures talked { Talked K.stands fingerprint.now core (I.typing typing.old) (K.identity keeper.new) (K.kept keeper.new) (K.file keeper.new) (K.state keeper.old) (K.state keeper.new) (K.leaves keeper.old) (K.leaves keeper.new) result }
+    ensures talked { Talked K.stands K.commit_most fingerprint.now core (I.typing typing.old) (K.identity keeper.new) (K.kept keeper.new) (K.file keeper.new) (K.state keeper.old) (K.state keeper.new) (K.leaves keeper.old) (K.leaves keeper.new) result }
     ensures ready { OnOk result (K.ready keeper.new) }
     ensures typing { SameTyping (I.typing typing.old) (I.typing typing.new) }
     ensures input { IsErrOf result LiveError.Input → Rose (I.typing typing.old).faults (I.typing typing.new).faults }

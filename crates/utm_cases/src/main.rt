@@ -5,18 +5,47 @@
 //! that the gate fails where a line is not met. The last text is wrong on purpose: a wrong line is seen.
 #![tactic(auto)]
 
+use carry_cli::{There, carry};
 use case_text::{Cases, Program};
 use kd_device::{MemRoom, MemTwin};
-use std::alloc::Global;
+use std::alloc::{AllocError, Global};
 use std::{env, fs};
 use utm_cli::utm_twin;
 
-/// The program `utm`.
+/// The status for want of memory.
+const OUT_OF_MEMORY: u8 = 7;
+
+/// The program `utm`; or `carry`, where that is the first word, with the words behind it.
 struct Utm;
+
+// The words behind the first one.
+fn behind(alloc: Global, words: &[String]) -> Result<Vec<String>, AllocError> {
+    let mut rest = Vec::new(alloc);
+    for word in words.iter().skip(1) {
+        rest.push(word.clone()?)?;
+    }
+    Ok(rest)
+}
+
+fn call_carry(alloc: Global, words: &[String], room: &mut MemRoom, twin: &mut MemTwin) -> u8 {
+    let there = There {
+        first: true,
+        second: true,
+    };
+    match behind(alloc, words) {
+        Ok(words) => carry(alloc, &words, room, twin, there).code,
+        Err(_) => OUT_OF_MEMORY,
+    }
+}
 
 impl Program for Utm {
     fn call(alloc: Global, words: &Vec<String>, room: &mut MemRoom, twin: &mut MemTwin) -> u8 {
-        utm_twin(alloc, words, room, twin).code
+        match words.first() {
+            Some(word) if word.as_bytes() == b"carry".as_slice() => {
+                call_carry(alloc, words, room, twin)
+            }
+            _ => utm_twin(alloc, words, room, twin).code,
+        }
     }
 }
 

@@ -7,7 +7,7 @@ use Rattle.kdcfile_carry.specs.Keeping.{IsSource, files_in}
 use Rattle.kdcfile_carry.specs.Leaving.{EachStands, StaysWithin}
 use Rattle.kdcfile_carry.proofs.Steps.{rose_on}
 use Rattle.kdcfile_carry.specs.LeavingLaws.{stays_weaker}
-use Rattle.kdcfile_carry.proofs.Changing.{has_anew, numbered, open_second, source_anew, source_in, source_second}
+use Rattle.kdcfile_carry.proofs.Changing.{anew_on_first, numbered, open_second, source_in, source_second}
 use Rattle.kdcfile_carry.proofs.carrying.first_anew.Given.{Over}
 use Rattle.kdcfile_carry.proofs.carrying.first_anew.Goals.{After-write_anew}
 use Rattle.kdcfile_carry.proofs.carrying.first_anew.Goals as goal
@@ -34,23 +34,13 @@ returns-in-Ok-Some-clause-any_moment g c = stays g (goal.at.returns-in-Ok-Some-c
 pub returns-in-Err-clause-any_moment : goal.returns-in-Err-clause-any_moment
 returns-in-Err-clause-any_moment g c = stays g (goal.at.returns-in-Err-clause-any_moment g c).After-write_anew
 
-pub returns-in-Ok-None-clause-has : goal.returns-in-Ok-None-clause-has
-returns-in-Ok-None-clause-has g c = λ told.
-    has_anew c.args.kept.now (g.T.Twin.both c.args.twin.now) (g.T.Twin.both c.write_anew.new.twin) (c.requires.is_in told) c.requires.second (c.in-Ok-None.ensures.copied c.in-Ok-None.field-0-is told) (c.write_anew.ensures.source_stays told)
-
-pub returns-in-Ok-None-clause-source : goal.returns-in-Ok-None-clause-source
-returns-in-Ok-None-clause-source g c = λ told n is.
+pub returns-in-Ok-None-clause-on_first : goal.returns-in-Ok-None-clause-on_first
+returns-in-Ok-None-clause-on_first g c = λ told.
     let k = c.args.kept.now in
-    source_anew k (g.T.Twin.both c.args.twin.now) (g.T.Twin.both c.write_anew.new.twin) (c.requires.is_in told) c.requires.second (c.in-Ok-None.ensures.copied c.in-Ok-None.field-0-is told) (c.write_anew.ensures.source_stays told) n is
-    (subst (λ o. EachStands k.file.store.identity k.tables (Some n) o (g.T.Twin.both c.write_anew.new.twin)) c.in-Ok-None.field-0-is (c.in-Ok-None.ensures.halves told k.file.store.identity n k.tables (source_second k (g.T.Twin.both c.args.twin.now) (g.T.Twin.both c.args.twin.now) (c.requires.is_in told) c.requires.second n is)))
-
-pub returns-in-Ok-None-clause-files : goal.returns-in-Ok-None-clause-files
-returns-in-Ok-None-clause-files g c = λ told.
-    let k = c.args.kept.now in
-    let n = numbered k c.requires.known c.requires.second in
-    source_in k First n.0 (g.T.Twin.both c.write_anew.new.twin).first.holds (g.T.Twin.both c.write_anew.new.twin).second.holds n.1
-    (source_anew k (g.T.Twin.both c.args.twin.now) (g.T.Twin.both c.write_anew.new.twin) (c.requires.is_in told) c.requires.second (c.in-Ok-None.ensures.copied c.in-Ok-None.field-0-is told) (c.write_anew.ensures.source_stays told) n.0 n.1
-    (subst (λ o. EachStands k.file.store.identity k.tables (Some n.0) o (g.T.Twin.both c.write_anew.new.twin)) c.in-Ok-None.field-0-is (c.in-Ok-None.ensures.halves told k.file.store.identity n.0 k.tables (source_second k (g.T.Twin.both c.args.twin.now) (g.T.Twin.both c.args.twin.now) (c.requires.is_in told) c.requires.second n.0 n.1))))
+    let a = g.T.Twin.both c.args.twin.now in
+    let b = g.T.Twin.both c.write_anew.new.twin in
+    anew_on_first k c.requires.known a b (c.requires.is_in told) c.requires.second (c.in-Ok-None.ensures.copied c.in-Ok-None.field-0-is told) (c.write_anew.ensures.source_stays told)
+    (λ n is. subst (λ o. EachStands k.file.store.identity k.tables (Some n) o b) c.in-Ok-None.field-0-is (c.in-Ok-None.ensures.halves told k.file.store.identity n k.tables (source_second k a a (c.requires.is_in told) c.requires.second n is)))
 
 pub returns-in-Ok-None-clause-fine : goal.returns-in-Ok-None-clause-fine
 returns-in-Ok-None-clause-fine g c =

@@ -7,4 +7,4 @@ returns-then-first-second-clause-counts c = λ a b one two. greater_counts c.arg
 
 pub returns-clause-counts : goal.returns-clause-counts
 returns-clause-counts c = λ a b one two.
-    equal_counts c.args.first c.args.second a b c.requires.first c.requires.second one two c.are_alike-alike.result (omega (arith, c.if-first-second.false)) (λ yes. c.are_alike-alike.ensures.0 yes)
+    equal_counts c.args.first c.args.second a b c.requires.first c.requires.second one two c.are_alike-alike.result (omega (arith, c.if-first-second.false)) (λ yes. c.are_alike-alike.ensures.0 yes) (λ no same. let yes = c.are_alike-alike.ensures.1 same in absurd cc)

@@ -1,12 +1,12 @@
 use Rattle.laws_of_runs.specs.Applied.{applied}
-use Rattle.lab_orders.proofs.Exploring.{tally_more, tally_start}
+use Rattle.lab_orders.proofs.Covering.{drawn_none, drawn_one}
 use Rattle.lab_orders.proofs.Finding.{found_next, start_again, start_next}
 use Rattle.lab_orders.proofs.explored.drawn_orders.Goals as goal
 
 pub loop-drawn-init : goal.loop-drawn-init
 loop-drawn-init c = record {
   can = c.requires;
-  tally = tally_start (applied c.args.generation c.args.units) c.args.tables.now c.args.commands.now c.new-outcomes.result.items c.new-outcomes.ensures.items;
+  are = drawn_none (applied c.args.generation c.args.units) c.args.tables.now c.args.commands.now c.new-outcomes.result.items c.new-outcomes.ensures.items;
 }
 
 pub drawn_order-requires : goal.drawn_order-requires
@@ -20,5 +20,5 @@ loop-drawn-preserved c =
     let can = c.loop-drawn.invariant.can in
     record {
       can = start_next app t cs c.loop-drawn.generation c.loop-drawn.units can c.in_ok-g.g c.in_ok-g.u c.in_ok-g.ensures.again;
-      tally = tally_more app t cs c.loop-drawn._drawn c.loop-drawn.outcomes.items c.add.new.outcomes.items c.in_ok-g.found c.loop-drawn.invariant.tally (found_next app t cs c.loop-drawn.generation c.loop-drawn.units can c.in_ok-g.found c.in_ok-g.ensures.order) c.in_ok-add.ensures;
+      are = drawn_one app t cs c.loop-drawn._drawn c.loop-drawn.outcomes.items c.add.new.outcomes.items c.in_ok-g.found c.loop-drawn.invariant.are (found_next app t cs c.loop-drawn.generation c.loop-drawn.units can c.in_ok-g.found c.in_ok-g.ensures.order) c.in_ok-add.ensures;
     }

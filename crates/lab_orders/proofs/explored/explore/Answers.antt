@@ -1,20 +1,36 @@
-use Rattle.std.proofs.Common.{subst}
-use Rattle.std.specs.Prelude.{IfSome, Option}
+use Rattle.std.proofs.Common.{sym, subst, ◌∙◌}
+use Rattle.std.proofs.lemmas.Bool.{true≢false}
 use Rattle.std.proofs.lemmas.Result.{IfOk-weaker}
 use Rattle.abstract_monitor.specs.State.{Application}
 use Rattle.laws_of_runs.specs.Applied.{applied}
-use Rattle.lab_orders.specs.declared.explored.Explored.{Explored}
-use Rattle.lab_orders.specs.Exploring.{IsDrawn, IsOfAllWalks}
-use Rattle.lab_orders.proofs.Covering.{ordered, orders_shown}
+use Rattle.lab_orders.specs.Exploring.{AllOrMore, IsDrawn}
+use Rattle.lab_orders.proofs.Covering.{ordered, orders_shown, tried_drawn, tried_whole}
 use Rattle.lab_orders.proofs.explored.explore.Goals as goal
 
 pub returns-in-Some-clause-all : goal.returns-in-Some-clause-all
 returns-in-Some-clause-all c all =
     let app = applied c.args.generation c.args.units in
-    let whole = subst (λ (o : Option Explored). IfSome o (λ e. IsOfAllWalks app c.args.tables.now c.args.commands.now c.args.most e)) c.in-Some.is c.in_ok-generation.ensures.whole in
+    let whole = subst (AllOrMore app c.args.tables.now c.args.commands.now c.args.most) c.in-Some.is c.in_ok-generation.ensures.whole in
     orders_shown app c.args.tables.now c.args.commands.now c.orders_are_walked.ensures
     (record { application = c.fitted_units_make_an_application.ensures; order = c.clock-clock.ensures.sorted; suits = c.requires.suits; names = c.requires.names })
-    c.in-Some.explored.outcomes whole.each_walk
+    c.in-Some.explored.outcomes (λ w walk. whole.tally.shown w (whole.each_walk w walk))
+
+pub returns-in-Some-clause-tried : goal.returns-in-Some-clause-tried
+returns-in-Some-clause-tried c =
+    let app = applied c.args.generation c.args.units in
+    tried_whole app c.args.tables.now c.args.commands.now c.args.most c.in-Some.explored (subst (AllOrMore app c.args.tables.now c.args.commands.now c.args.most) c.in-Some.is c.in_ok-generation.ensures.whole)
+
+pub returns-in-Some-clause-more : goal.returns-in-Some-clause-more
+returns-in-Some-clause-more c some =
+    let app = applied c.args.generation c.args.units in
+    let whole = subst (AllOrMore app c.args.tables.now c.args.commands.now c.args.most) c.in-Some.is c.in_ok-generation.ensures.whole in
+    absurd (true≢false (sym whole.all ∙ some))
+
+pub returns-in-Some-clause-orders : goal.returns-in-Some-clause-orders
+returns-in-Some-clause-orders c =
+    let app = applied c.args.generation c.args.units in
+    let whole = subst (AllOrMore app c.args.tables.now c.args.commands.now c.args.most) c.in-Some.is c.in_ok-generation.ensures.whole in
+    ordered c.walks_are_orders.ensures app c.args.tables.now c.args.commands.now c.in-Some.explored.outcomes whole.tally.each
 
 pub returns-in-None-clause-orders : goal.returns-in-None-clause-orders
 returns-in-None-clause-orders c =
@@ -24,8 +40,16 @@ returns-in-None-clause-orders c =
     (subst (λ (a : Application). IsDrawn a c.args.tables.now c.args.commands.now c.args.most e) c.in_ok-generation.ensures.again.application h).tally.each)
     c.drawn_orders.ensures
 
-pub returns-in-Some-clause-orders : goal.returns-in-Some-clause-orders
-returns-in-Some-clause-orders c =
+pub returns-in-None-clause-tried : goal.returns-in-None-clause-tried
+returns-in-None-clause-tried c =
     let app = applied c.args.generation c.args.units in
-    let whole = subst (λ (o : Option Explored). IfSome o (λ e. IsOfAllWalks app c.args.tables.now c.args.commands.now c.args.most e)) c.in-Some.is c.in_ok-generation.ensures.whole in
-    ordered c.walks_are_orders.ensures app c.args.tables.now c.args.commands.now c.in-Some.explored.outcomes whole.tally.each
+    IfOk-weaker c.drawn_orders.result _ _
+    (λ e h. tried_drawn app c.args.tables.now c.args.commands.now c.args.most e (subst (λ (a : Application). IsDrawn a c.args.tables.now c.args.commands.now c.args.most e) c.in_ok-generation.ensures.again.application h))
+    c.drawn_orders.ensures
+
+pub returns-in-None-clause-more : goal.returns-in-None-clause-more
+returns-in-None-clause-more c =
+    let app = applied c.args.generation c.args.units in
+    IfOk-weaker c.drawn_orders.result _ _
+    (λ e h some. subst (AllOrMore app c.args.tables.now c.args.commands.now c.args.most) c.in-None.is c.in_ok-generation.ensures.whole)
+    c.drawn_orders.ensures

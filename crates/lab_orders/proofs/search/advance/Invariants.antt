@@ -8,6 +8,7 @@ use Rattle.lab_orders.proofs.search.advance.Given as goal
 abbrev pub invariant-loop-frame : goal.invariant-loop-frame
 invariant-loop-frame l = record {
   left : (w : List ℕ) → IsLeft l.fn.frames.items w → IsLeft l.frames.items w;
+  only : (w : List ℕ) → IsLeft l.frames.items w → IsLeft l.fn.frames.items w;
   way : (app : Application) (cs : List Command) (s : State) → IsWay app cs s l.fn.frames.items → IsWay app cs s l.frames.items;
 }
 

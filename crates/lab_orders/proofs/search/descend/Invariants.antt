@@ -11,5 +11,6 @@ invariant-loop-deeper l = record {
   can : CanStart (applied l.fn.generation l.fn.units) l.tables l.commands l.generation l.units;
   way : IsWay (applied l.fn.generation l.fn.units) l.commands (started (applied l.fn.generation l.fn.units) l.tables) l.frames.items;
   kept : (w : List ℕ) → IsWalk (applied l.fn.generation l.fn.units) l.commands (started (applied l.fn.generation l.fn.units) l.tables) w → IsAhead l.fn.frames.items w → IsAhead l.frames.items w;
+  only : (w : List ℕ) → IsAhead l.frames.items w → IsAhead l.fn.frames.items w;
   long : l._deeper ≤ length l.frames.items;
 }

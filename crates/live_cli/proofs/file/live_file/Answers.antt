@@ -5,7 +5,7 @@ use Rattle.device_acts.specs.ErrorsLaws.{no_error}
 use Rattle.call_parts.specs.Asking.{gen_errand}
 use Rattle.kdcfile_double.specs.MendLaws.{on_ok}
 use Rattle.live_cli.proofs.Handing.{none_handed, other_handed}
-use Rattle.live_cli.proofs.Opened.{not_opened, opened}
+use Rattle.live_cli.proofs.Opened.{later, left_at_once, not_opened, opened}
 use Rattle.live_cli.proofs.file.live_file.Goals as goal
 
 -- ---- the file is not opened
@@ -14,6 +14,7 @@ pub returns-in_err-store-clause-lived : goal.returns-in_err-store-clause-lived
 returns-in_err-store-clause-lived g c = λ told only t starts.
     not_opened (gen_errand c.args.work) t (g.I.Typing.typing c.args.typing.now) (g.D.Device.state c.args.device.now) (g.D.Device.leaves c.args.device.now) only (λ image out left. g.met.D.Device.sent_now c.args.device.now image out told left) starts
     (g.D.Device.state c.open.new.device) (g.D.Device.leaves c.open.new.device) c.from_residual.result _ c.from_residual.ensures.1 (c.open.ensures.any_moment told)
+    (left_at_once (g.D.Device.state c.args.device.now) (g.D.Device.state c.open.new.device) (g.D.Device.leaves c.open.new.device) (g.met.D.Device.earlier c.open.new.device) (told_after _ _ c.open.ensures.frame told) c.open.ensures.frame.moment (g.met.D.Device.holds_now c.open.new.device (told_after _ _ c.open.ensures.frame told))) (c.open.ensures.sent told) (c.open.ensures.put_most told)
 
 pub returns-in_err-store-clause-still : goal.returns-in_err-store-clause-still
 returns-in_err-store-clause-still g c = λ told none. c.open.ensures.still told (λ empty. none empty_tables (inl (empty, refl)))
@@ -32,7 +33,8 @@ returns-clause-opened g c = on_ok c.live_from.result _ (λ told. (c.in_ok-store.
 pub returns-clause-lived : goal.returns-clause-lived
 returns-clause-lived g c = λ told only t starts.
     opened (gen_errand c.args.work) t (g.I.Typing.typing c.args.typing.now) (g.D.Device.state c.args.device.now) (g.D.Device.leaves c.args.device.now) only (λ image out left. g.met.D.Device.sent_now c.args.device.now image out told left) starts
-    c.in_ok-store.tables (g.D.Device.state c.open.new.device) (g.D.Device.state c.live_from.new.device) (g.D.Device.leaves c.open.new.device) (g.D.Device.leaves c.live_from.new.device) c.live_from.result (c.in_ok-store.ensures.starts told) (c.open.ensures.any_moment told) (c.open.ensures.sent told) (told_after _ _ c.open.ensures.frame told)
+    c.in_ok-store.tables (g.D.Device.state c.open.new.device) (g.D.Device.state c.live_from.new.device) (g.D.Device.leaves c.open.new.device) (g.D.Device.leaves c.live_from.new.device) c.live_from.result (c.in_ok-store.ensures.starts told) (c.open.ensures.any_moment told) (c.open.ensures.sent told) (c.open.ensures.put_most told) c.open.ensures.frame.line_faults (told_after _ _ c.open.ensures.frame told)
+    (left_at_once (g.D.Device.state c.args.device.now) (g.D.Device.state c.live_from.new.device) (g.D.Device.leaves c.live_from.new.device) (g.met.D.Device.earlier c.live_from.new.device) (told_after _ _ c.live_from.ensures.frame (told_after _ _ c.open.ensures.frame told)) (later c.open.ensures.frame.moment c.live_from.ensures.frame.moment) (g.met.D.Device.holds_now c.live_from.new.device (told_after _ _ c.live_from.ensures.frame (told_after _ _ c.open.ensures.frame told))))
     (c.live_from.ensures.lived (told_after _ _ c.open.ensures.frame told))
 
 pub returns-clause-still : goal.returns-clause-still

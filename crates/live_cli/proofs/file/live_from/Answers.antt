@@ -13,4 +13,5 @@ returns-clause-lived g c = λ told.
     from_over (gen_errand c.args.work) c.args.tables c.in_ok-core.core core.application core.state core.steps c.requires.suits (g.I.Typing.typing c.args.typing.now) (g.D.Device.state c.args.device.now) (g.D.Device.state c.live_over_store.new.device) (g.D.Device.leaves c.args.device.now) (g.D.Device.leaves c.live_over_store.new.device) c.live_over_store.result (c.live_over_store.ensures.lived told)
 
 pub returns-in_err-core-clause-lived : goal.returns-in_err-core-clause-lived
-returns-in_err-core-clause-lived g c = λ told. none_from (gen_errand c.args.work) c.args.tables (g.I.Typing.typing c.args.typing.now) (g.D.Device.state c.args.device.now) (g.D.Device.leaves c.args.device.now) c.from_residual.result _ c.from_residual.ensures.1
+returns-in_err-core-clause-lived g c = λ told.
+    none_from (gen_errand c.args.work) c.args.tables c.requires.suits c.args.store c.requires.tables (g.I.Typing.typing c.args.typing.now) (g.D.Device.state c.args.device.now) (g.D.Device.leaves c.args.device.now) (c.requires.kept told) c.from_residual.result c.from_residual.ensures.1

@@ -9,7 +9,7 @@ use Rattle.live_cli.proofs.file.live_over.Goals as goal
 pub returns-in_default : goal.returns-in_default
 returns-in_default g c =
     nothing_ends (gen_errand c.args.work) c.args.base.now (g.I.Typing.typing c.args.typing.now) (g.I.Typing.typing c.args.typing.now) (record { told = refl; types = refl }) (g.D.Device.state c.args.device.now) (g.D.Device.leaves c.args.device.now)
-    (λ image out left told. g.met.D.Device.sent_now c.args.device.now image out told left) refl
+    (λ image out left told. g.met.D.Device.sent_now c.args.device.now image out told left) (g.met.D.Device.holds_now c.args.device.now) refl
 
 pub returns-in-Ok-live_file : goal.returns-in-Ok-live_file
 returns-in-Ok-live_file g c =
@@ -25,7 +25,7 @@ returns-in-Err-Failed g c =
     let a = g.D.Device.state c.args.device.now in
     let b = g.D.Device.state c.live_file.new.device in
     late_ends (gen_errand c.args.work) c.args.base.now (g.I.Typing.typing c.args.typing.now) (g.I.Typing.typing c.live_file.new.typing) c.live_file.ensures.typing a (g.D.Device.leaves c.args.device.now) b (g.D.Device.leaves c.live_file.new.device) c.live_file.ensures.frame
-    (λ told. subst (λ (n : List ℕ). MayAttach n a b) (c.deref.ensures.value ∙ c.in-Ok.ensures) (c.live_file.ensures.names told)) 5 refl c.in-Err-Failed.ensures.lived c.live_file.ensures.still
+    (λ told. subst (λ (n : List ℕ). MayAttach n a b) (c.deref.ensures.value ∙ c.in-Ok.ensures) (c.live_file.ensures.names told)) _ 5 refl (λ is. inl c.in-Err-Failed.field-0-is) c.in-Err-Failed.ensures.lived c.live_file.ensures.still
     (λ is. inl (c.in-Err-Failed.ensures.failed (ap (λ (e : LiveError). Err e) c.in-Err-Failed.field-0-is))) (λ not. absurd (not refl))
 
 pub returns-in-Err-Input : goal.returns-in-Err-Input
@@ -33,7 +33,7 @@ returns-in-Err-Input g c =
     let a = g.D.Device.state c.args.device.now in
     let b = g.D.Device.state c.live_file.new.device in
     late_ends (gen_errand c.args.work) c.args.base.now (g.I.Typing.typing c.args.typing.now) (g.I.Typing.typing c.live_file.new.typing) c.live_file.ensures.typing a (g.D.Device.leaves c.args.device.now) b (g.D.Device.leaves c.live_file.new.device) c.live_file.ensures.frame
-    (λ told. subst (λ (n : List ℕ). MayAttach n a b) (c.deref.ensures.value ∙ c.in-Ok.ensures) (c.live_file.ensures.names told)) 5 refl c.in-Err-Input.ensures.lived c.live_file.ensures.still
+    (λ told. subst (λ (n : List ℕ). MayAttach n a b) (c.deref.ensures.value ∙ c.in-Ok.ensures) (c.live_file.ensures.names told)) _ 5 refl (λ is. inr (c.in-Err-Input.ensures.input (ap (λ (e : LiveError). Err e) c.in-Err-Input.field-0-is))) c.in-Err-Input.ensures.lived c.live_file.ensures.still
     (λ is. inr (c.in-Err-Input.ensures.input (ap (λ (e : LiveError). Err e) c.in-Err-Input.field-0-is))) (λ not. absurd (not refl))
 
 pub returns-in-Err-Memory : goal.returns-in-Err-Memory
@@ -41,7 +41,7 @@ returns-in-Err-Memory g c =
     let a = g.D.Device.state c.args.device.now in
     let b = g.D.Device.state c.live_file.new.device in
     late_ends (gen_errand c.args.work) c.args.base.now (g.I.Typing.typing c.args.typing.now) (g.I.Typing.typing c.live_file.new.typing) c.live_file.ensures.typing a (g.D.Device.leaves c.args.device.now) b (g.D.Device.leaves c.live_file.new.device) c.live_file.ensures.frame
-    (λ told. subst (λ (n : List ℕ). MayAttach n a b) (c.deref.ensures.value ∙ c.in-Ok.ensures) (c.live_file.ensures.names told)) 7 refl c.in-Err-Memory.ensures.lived c.live_file.ensures.still
+    (λ told. subst (λ (n : List ℕ). MayAttach n a b) (c.deref.ensures.value ∙ c.in-Ok.ensures) (c.live_file.ensures.names told)) _ 7 refl (λ five. absurd cc) c.in-Err-Memory.ensures.lived c.live_file.ensures.still
     (λ is. absurd cc) (λ not. (c.in-Err-Memory.ensures.fine (λ is. absurd cc), c.in-Err-Memory.ensures.heard (λ is. absurd cc)))
 
 pub returns-in-Err-Spent : goal.returns-in-Err-Spent
@@ -49,7 +49,7 @@ returns-in-Err-Spent g c =
     let a = g.D.Device.state c.args.device.now in
     let b = g.D.Device.state c.live_file.new.device in
     late_ends (gen_errand c.args.work) c.args.base.now (g.I.Typing.typing c.args.typing.now) (g.I.Typing.typing c.live_file.new.typing) c.live_file.ensures.typing a (g.D.Device.leaves c.args.device.now) b (g.D.Device.leaves c.live_file.new.device) c.live_file.ensures.frame
-    (λ told. subst (λ (n : List ℕ). MayAttach n a b) (c.deref.ensures.value ∙ c.in-Ok.ensures) (c.live_file.ensures.names told)) 7 refl c.in-Err-Spent.ensures.lived c.live_file.ensures.still
+    (λ told. subst (λ (n : List ℕ). MayAttach n a b) (c.deref.ensures.value ∙ c.in-Ok.ensures) (c.live_file.ensures.names told)) _ 7 refl (λ five. absurd cc) c.in-Err-Spent.ensures.lived c.live_file.ensures.still
     (λ is. absurd cc) (λ not. (c.in-Err-Spent.ensures.fine (λ is. absurd cc), c.in-Err-Spent.ensures.heard (λ is. absurd cc)))
 
 pub returns-in-Err-NotKdcfile : goal.returns-in-Err-NotKdcfile

@@ -5,7 +5,7 @@ use Rattle.kdcfile_carry.specs.Keeping.{IsIn, files_in}
 use Rattle.kdcfile_carry.specs.Ways.{files_after}
 use Rattle.kdcfile_carry.proofs.Found.{found_then, reading_stays, refusal, spent_are}
 use Rattle.kdcfile_carry.proofs.Steps.{as_after, if_ok_weaker, outcome_then}
-use Rattle.kdcfile_carry.proofs.files.carry_to_copies.Goals as goal
+use Rattle.kdcfile_carry.proofs.files.carry_files.Goals as goal
 
 pub returns-in_err-kept-clause-any_moment : goal.returns-in_err-kept-clause-any_moment
 returns-in_err-kept-clause-any_moment g c = λ told rest f are.
@@ -37,7 +37,7 @@ returns-clause-refused g c = λ why is told.
 
 pub returns-clause-spent : goal.returns-clause-spent
 returns-clause-spent g c = λ n is told.
-    spent_are c.args.generation.now c.args.fingerprint.now (files_in c.in_ok-kept.kept) (g.T.Twin.both c.args.twin.now).first.holds (g.T.Twin.both c.args.twin.now).second.holds (c.in_ok-kept.ensures.is_in told).files n c.requires.double (c.carry_kept.ensures.spent n is)
+    spent_are c.args.generation.now c.args.fingerprint.now (files_in c.in_ok-kept.kept) (g.T.Twin.both c.args.twin.now).first.holds (g.T.Twin.both c.args.twin.now).second.holds (c.in_ok-kept.ensures.is_in told).files n (c.carry_kept.ensures.spent n is)
 
 pub returns-clause-still : goal.returns-clause-still
 returns-clause-still g c = λ told none.

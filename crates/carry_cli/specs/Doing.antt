@@ -1,0 +1,49 @@
+-- What the parts of a call that carries files promise each other.
+use Rattle.std.specs.Prelude.{ℕ, List, Result, Ok, Err}
+use Rattle.kd_device.specs.Twin.{Both}
+use Rattle.kd_device.specs.declared.error.DeviceError.{DeviceError}
+use Rattle.kd_device.specs.declared.error.DeviceError.TheVariants as device
+use Rattle.kdcfile_double.specs.MakingLaws.{RestsBoth}
+use Rattle.kdcfile_double.specs.Twice.{NoneRose}
+use Rattle.kdcfile_update.specs.declared.kd_update.error.UpdateError.{UpdateError}
+use Rattle.kdcfile_update.specs.declared.kd_update.error.UpdateError.TheVariants as cause
+use Rattle.kdcfile_carry.specs.Doing.{FailsAlone}
+use Rattle.kdcfile_carry.specs.Files.{Files}
+use Rattle.kdcfile_carry.specs.Promise.{StandNow}
+use Rattle.kdcfile_carry.specs.Ways.{carried_files}
+use Rattle.kdcfile_carry.specs.declared.error.FilesError.{FilesError}
+use Rattle.kdcfile_carry.specs.declared.error.FilesError.TheVariants as files
+use Rattle.call_parts.specs.Asking.{Errand}
+use Rattle.carry_cli.specs.Carrying.{Hinders, OfFiles, generation_of}
+use Rattle.carry_cli.specs.declared.answer.Answer.{Answer}
+use Rattle.carry_cli.specs.declared.answer.Answer.TheVariants as answer
+use Rattle.carry_cli.specs.declared.answer.Hindrance.TheVariants as hindrance
+use Rattle.carry_cli.specs.declared.words.Options.{Options}
+
+-- a judgement as an answer; want of memory is none
+abbrev pub judged_as : UpdateError → Result Answer DeviceError
+judged_as cause.NotKdcfile = Ok (answer.Hindered (hindrance.Judged cause.NotKdcfile))
+judged_as (cause.OtherBlksize n) = Ok (answer.Hindered (hindrance.Judged (cause.OtherBlksize n)))
+judged_as (cause.SmallerPool n) = Ok (answer.Hindered (hindrance.Judged (cause.SmallerPool n)))
+judged_as (cause.TooManyGssbs n) = Ok (answer.Hindered (hindrance.Judged (cause.TooManyGssbs n)))
+judged_as (cause.TooLarge n) = Ok (answer.Hindered (hindrance.Judged (cause.TooLarge n)))
+judged_as cause.Memory = Err device.Memory
+
+-- what it means that files were not carried
+abbrev pub hindered_by : FilesError → Result Answer DeviceError
+hindered_by (files.Refused why) = judged_as why
+hindered_by files.TwoMeanings = Ok (answer.Hindered hindrance.TwoMeanings)
+hindered_by (files.Spent n) = Ok (answer.Hindered hindrance.Spent)
+hindered_by files.Failed = Err device.Failed
+hindered_by files.Memory = Err device.Memory
+
+-- before it is said: each half stands for the tables, but for one that is lost; or both files stay as they are, at every stop
+abbrev pub IsNow : Errand → Options → Answer → (a b : Both) → (la lb : ℕ → List ℕ → List ℕ → List ℕ → Type 0) → Type 0
+IsNow e o (answer.UpToDate lost) a b la lb =
+    (f : Files) × OfFiles e o (answer.UpToDate lost) a.first.holds a.second.holds f × StandNow f lost b lb × FailsAlone lost a b
+IsNow e o answer.WouldKeep a b la lb = (f : Files) × OfFiles e o answer.WouldKeep a.first.holds a.second.holds f × RestsBoth a b la lb × NoneRose a b
+IsNow e o (answer.Carried gone lost) a b la lb =
+    (f : Files) × OfFiles e o (answer.Carried gone lost) a.first.holds a.second.holds f × StandNow (carried_files (generation_of e) e.fingerprint f) lost b lb × FailsAlone lost a b
+IsNow e o (answer.WouldCarry gone rows) a b la lb = (f : Files) × OfFiles e o (answer.WouldCarry gone rows) a.first.holds a.second.holds f × RestsBoth a b la lb × NoneRose a b
+IsNow e o (answer.WouldDrop rows) a b la lb = (f : Files) × OfFiles e o (answer.WouldDrop rows) a.first.holds a.second.holds f × RestsBoth a b la lb × NoneRose a b
+IsNow e o (answer.Hindered why) a b la lb = Hinders e o a.first.holds a.second.holds why × RestsBoth a b la lb
