@@ -1,6 +1,7 @@
 //! Pages as bytes.
-ghost use Rattle.std.specs.Prelude.{◌≡◌, ◌≤◌, ◌<◌, ◌+◌, ◌-◌, ◌*◌, ◌/◌, ◌^◌, ◌++◌, List, length, drop, IfOk, OnOk};
+ghost use Rattle.std.specs.Prelude.{◌≡◌, ◌≤◌, ◌<◌, ◌+◌, ◌-◌, ◌*◌, ◌/◌, ◌^◌, ◌++◌, ◌∷◌, [], List, length, drop, IfOk, OnOk};
 ghost use Rattle.std.specs.List.{flat_map};
+ghost use Rattle.std.specs.Int.{w32, to_be_bytes};
 ghost use Rattle.kd_records.specs.Charge.{IsBlockSize};
 ghost use Rattle.kdcfile_layout.specs.Layout.{zeros, spelled_slot, directory_text, chain_head, first_of_pages, record_parts, page_place};
 ghost use Rattle.kdcfile_layout.specs.Pages.{padded, page_writes};
@@ -48,6 +49,26 @@ fn pad(page: &mut Vec<u8>, size: u32) -> Result<(), OutOfMemory>
 }
 
 #[tactic(auto, unfolding(crate::specs::Layout::chain_head))]
+// Puts the 48 bytes in front of a value's part into an empty buffer.
+fn put_head(
+    to: &mut Vec<u8>,
+    key: &RecordKey,
+    whole: u32,
+    part: u32,
+    next: u32,
+) -> Result<(), OutOfMemory>
+    requires empty { to.old.items ≡ [] }
+    ensures bytes { OnOk result (to.new.items ≡ chain_head key.now whole part next) }
+    ensures length { OnOk result (length to.new.items ≡ 48) }
+{
+    to.push(key.kind)?;
+    to.extend_from_slice(&key.bytes)?;
+    to.extend_from_slice(&whole.to_be_bytes())?;
+    to.extend_from_slice(&part.to_be_bytes())?;
+    to.extend_from_slice(&next.to_be_bytes())?;
+    add_zeros(to, 11)
+}
+
 /// The 48 bytes in front of a value's part: the key, the length of the whole value, the number of the part from 0 on,
 /// the next page, and zero bytes.
 pub fn head_bytes(
@@ -60,13 +81,8 @@ pub fn head_bytes(
     ensures bytes { IfOk result (λ v. v.items ≡ chain_head key.now whole part next) }
     ensures length { IfOk result (λ v. length v.items ≡ 48) }
 {
-    let mut out = Vec::new(alloc);
-    out.push(key.kind)?;
-    out.extend_from_slice(&key.bytes)?;
-    out.extend_from_slice(&whole.to_be_bytes())?;
-    out.extend_from_slice(&part.to_be_bytes())?;
-    out.extend_from_slice(&next.to_be_bytes())?;
-    add_zeros(&mut out, 11)?;
+    let mut out = Vec::with_capacity(alloc, HEAD_LEN)?;
+    put_head(&mut out, key, whole, part, next)?;
     Ok(out)
 }
 
@@ -84,7 +100,8 @@ fn chain_page(
     requires fits { 48 + length front.now ≤ size }
     ensures { IfOk result (λ b. b ≡ padded size (chain_head key.now whole part next ++ front.now)) }
 {
-    let mut out = head_bytes(alloc, key, whole, part, next)?;
+    let mut out = Vec::with_capacity(alloc, size as usize)?;
+    put_head(&mut out, key, whole, part, next)?;
     out.extend_from_slice(front)?;
     pad(&mut out, size)?;
     Ok(Bytes::from_vec(out))
@@ -138,21 +155,25 @@ pub fn put_chain(
     Ok(())
 }
 
-#[tactic(auto, unfolding(crate::specs::Layout::spelled_slot))]
-// Adds a slot.
-fn put_slot(to: &mut Vec<u8>, slot: &Option<Chain>) -> Result<(), OutOfMemory>
-    requires room { length to.old.items + 32 ≤ 8192 }
-    ensures bytes { OnOk result (to.new.items ≡ to.old.items ++ spelled_slot slot.now) }
-    ensures length { OnOk result (length to.new.items ≡ length to.old.items + 32) }
+// A slot with this key, and the first page of its chain.
+fn used_slot(key: &RecordKey, page: u32) -> [u8; 32]
+    ensures { result ≡ key.now.kind ∷ (key.now.bytes ++ to_be_bytes w32 page ++ zeros 3) }
+{
+    let mut slot = [0; 32];
+    slot[0] = key.kind;
+    slot[1..25].copy_from_slice(&key.bytes);
+    slot[25..29].copy_from_slice(&page.to_be_bytes());
+    slot
+}
+
+#[tactic(auto, unfolding(crate::specs::Layout::spelled_slot, crate::specs::Layout::zeros))]
+// A slot, as its bytes.
+fn slot_bytes(slot: &Option<Chain>) -> [u8; 32]
+    ensures { result ≡ spelled_slot slot.now }
 {
     match slot {
-        None => add_zeros(to, 32),
-        Some(chain) => {
-            to.push(chain.key.kind)?;
-            to.extend_from_slice(&chain.key.bytes)?;
-            to.extend_from_slice(&first_page(chain.pages.as_slice()).to_be_bytes())?;
-            add_zeros(to, 3)
-        }
+        None => [0; 32],
+        Some(chain) => used_slot(&chain.key, first_page(chain.pages.as_slice())),
     }
 }
 
@@ -165,7 +186,7 @@ fn slots_page(alloc: Global, size: u32, slots: &[Option<Chain>]) -> Result<Bytes
 {
     let mut out = Vec::with_capacity(alloc, size as usize)?;
     for slot in slots {
-        put_slot(&mut out, slot)?;
+        out.extend_from_slice(&slot_bytes(slot))?;
     }
     pad(&mut out, size)?;
     Ok(Bytes::from_vec(out))

@@ -8,6 +8,9 @@ use crate::kdcfile_images::image::Root;
 use kd_base::{Bytes, OutOfMemory};
 use std::alloc::Global;
 
+/// The length of a root without the numbers of the directory's pages.
+const ROOT_LEN: usize = 64;
+
 /// Adds page numbers, in four bytes each.
 fn put_numbers(to: &mut Bytes, pages: &[u32]) -> Result<(), OutOfMemory>
     ensures { OnOk result (to.new ≡ to.old ++ flat_map (λ p. to_be_bytes w32 p) pages.now) }
@@ -23,7 +26,8 @@ pub fn root_bytes(alloc: Global, root: &Root) -> Result<Bytes, OutOfMemory>
     requires { length root.now.directory < 2 ^ 32 }
     ensures { IfOk result (λ b. b ≡ spelled_root root.now) }
 {
-    let mut out = Bytes::new(alloc);
+    let len = ROOT_LEN + 4 * root.directory.len();
+    let mut out = Bytes::from_vec(Vec::with_capacity(alloc, len)?);
     out.append(&root.fingerprint)?;
     out.put_u64(root.clock)?;
     out.put_u64(root.next_job)?;
