@@ -1,10 +1,10 @@
 //! A chain of pages, read from the file.
-ghost use Rattle.std.specs.{Prelude.{◌≡◌, ◌≤◌, List, ℕ, IsTrue, length, IfOk, IfSome, IsErrOf}, Option.{option_map}};
+ghost use Rattle.std.specs.{Prelude.{◌≡◌, ◌≤◌, ◌++◌, ◌∷◌, [], List, ℕ, false, None, Some, IsTrue, length, IfOk, IfSome, OnOk, IsErrOf}, Option.{option_map}};
 ghost use Rattle.kd_device.specs.{Device.{Rose, Frame, SameFaults, SameNames}, Rest.{Rests}};
 ghost use Rattle.kdcfile_layout.specs.{Chains.{chain_of}, ReadChains.{Holds}};
 
 use crate::part::part_at;
-use kd_base::Bytes;
+use kd_base::{Bytes, OutOfMemory};
 use kd_device::{Device, DeviceError};
 use kd_records::RecordKey;
 use kdcfile_layout::NO_PAGE;
@@ -16,6 +16,67 @@ use std::alloc::Global;
 pub struct Found {
     pub pages: Pages,
     pub value: Bytes,
+}
+
+impl Found {
+    // One more page, with this piece of the value.
+    fn add(&mut self, page: u32, piece: &[u8]) -> Result<(), OutOfMemory>
+        ensures pages { OnOk result (self.new.pages ≡ self.old.pages ++ page ∷ []) }
+        ensures value { OnOk result (self.new.value ≡ self.old.value ++ piece.now) }
+    {
+        self.pages.push(page)?;
+        self.value.append(piece)
+    }
+}
+
+// Adds the parts of the chain from this page on, of so many pages; false if it is none of this record with a value of
+// `whole` bytes.
+fn read_parts<D: Device>(
+    alloc: Global,
+    device: &mut D,
+    size: u32,
+    count: u32,
+    key: &RecordKey,
+    whole: u32,
+    pages: u32,
+    first: u32,
+    found: &mut Found,
+) -> Result<bool, DeviceError>
+    requires block { size ≤ 8192 }
+    requires holds { Holds size pages whole }
+    requires no_pages { found.old.pages ≡ [] }
+    requires no_value { found.old.value ≡ [] }
+    ensures value { IfOk result (λ there. IsTrue there → IsTrue (D.state device.old).told → Some (found.new.pages, found.new.value) ≡ chain_of size count (D.state device.old).holds key.now whole 0 pages whole first) }
+    ensures none { IfOk result (λ there. there ≡ false → IsTrue (D.state device.old).told → None ≡ chain_of size count (D.state device.old).holds key.now whole 0 pages whole first) }
+    ensures pages { IfOk result (λ there. IsTrue there → length found.new.pages ≡ pages) }
+    ensures length { IfOk result (λ there. IsTrue there → length found.new.value ≡ whole) }
+    ensures rests { IsTrue (D.state device.old).told → Rests (D.state device.old) (D.state device.new) (D.leaves device.old) (D.leaves device.new) }
+    ensures failed { IsErrOf result DeviceError.Failed → Rose (D.state device.old).disk_faults (D.state device.new).disk_faults }
+    ensures fine { (IsErrOf result DeviceError.Failed → ⊥) → SameFaults (D.state device.old) (D.state device.new) }
+    ensures frame { Frame (D.state device.old) (D.state device.new) }
+    ensures names { SameNames (D.state device.old) (D.state device.new) }
+{
+    let payload = size as usize - 48;
+    let mut page = first;
+    let mut room = whole as usize;
+    for part in 0..pages - 1 {
+        let Some(here) = part_at(alloc, device, size, count, key, whole, part, page)? else {
+            return Ok(false);
+        };
+        let (front, _) = here.bytes.as_slice().split_at(payload);
+        found.add(page, front)?;
+        room -= payload;
+        page = here.next;
+    }
+    let Some(here) = part_at(alloc, device, size, count, key, whole, pages - 1, page)? else {
+        return Ok(false);
+    };
+    if here.next != NO_PAGE {
+        return Ok(false);
+    }
+    let (front, _) = here.bytes.as_slice().split_at(room);
+    found.add(page, front)?;
+    Ok(true)
 }
 
 /// The chain from this page on, of so many pages, if it is one of this record with a value of `whole` bytes.
@@ -40,31 +101,12 @@ pub fn read_chain<D: Device>(
     ensures frame { Frame (D.state device.old) (D.state device.new) }
     ensures names { SameNames (D.state device.old) (D.state device.new) }
 {
-    let payload = size as usize - 48;
     let mut found = Found {
         pages: Pages::new(alloc),
         value: Bytes::new(alloc),
     };
-    let mut page = first;
-    let mut room = whole as usize;
-    for part in 0..pages - 1 {
-        let Some(here) = part_at(alloc, device, size, count, key, whole, part, page)? else {
-            return Ok(None);
-        };
-        let (front, _) = here.bytes.as_slice().split_at(payload);
-        found.pages.push(page)?;
-        found.value.append(front)?;
-        room -= payload;
-        page = here.next;
-    }
-    let Some(here) = part_at(alloc, device, size, count, key, whole, pages - 1, page)? else {
-        return Ok(None);
-    };
-    if here.next != NO_PAGE {
-        return Ok(None);
-    }
-    let (front, _) = here.bytes.as_slice().split_at(room);
-    found.pages.push(page)?;
-    found.value.append(front)?;
-    Ok(Some(found))
+    let there = read_parts(
+        alloc, device, size, count, key, whole, pages, first, &mut found,
+    )?;
+    if there { Ok(Some(found)) } else { Ok(None) }
 }

@@ -1,5 +1,5 @@
 use Rattle.kdcfile_load.proofs.SoFar.{Reading}
-use Rattle.kdcfile_load.proofs.chain.read_chain.Given as goal
+use Rattle.kdcfile_load.proofs.chain.read_parts.Given as goal
 
 abbrev pub invariant-loop-part : goal.invariant-loop-part
 invariant-loop-part g l =

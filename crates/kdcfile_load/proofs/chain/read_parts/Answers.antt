@@ -7,14 +7,14 @@ use Rattle.kdcfile_layout.specs.Chains.{Held}
 use Rattle.kdcfile_layout.specs.ReadChainsLaws.{some_chain}
 use Rattle.kdcfile_load.proofs.Choices.{not_failed, of_some}
 use Rattle.kdcfile_load.proofs.SoFarLaws.{none_now, more_now, none_last, last_now, last_pages, last_bytes, not_last, is_last}
-use Rattle.kdcfile_load.proofs.chain.read_chain.Goals as goal
+use Rattle.kdcfile_load.proofs.chain.read_parts.Goals as goal
 
 held_in : Option Part → Option Held
 held_in o = option_map (λ (q : Part). (q.next, q.bytes)) o
 
-pub returns-in_default-clause-value : goal.returns-in_default-clause-value
+pub returns-in_default-clause-none : goal.returns-in_default-clause-none
 unfolding held_in
-returns-in_default-clause-value g c = λ told.
+returns-in_default-clause-none g c = λ _ told.
     let told_b : IsTrue (g.D.Device.state c.loop-part.device).told = rw c.loop-part.invariant.rested.frame.told told in
     let before : c.loop-part.part < c.args.pages = omega (arith, c.loop-part-test.true) in
     none_now c.args.size c.args.count c.args.key.now c.args.whole c.args.pages c.args.first c.loop-part.part c.loop-part.room c.loop-part.page c.loop-part.found.pages c.loop-part.found.value _ _ _ _ c.loop-part.invariant before told (sym (c.in_ok-here.ensures.value told_b) ∙ ap (λ (o : Option Part). held_in o) c.in_default.is)
@@ -24,19 +24,19 @@ unfolding held_in
 loop-part-preserved g c =
     more_now c.args.size c.args.count c.args.key.now c.args.whole c.args.pages c.args.first c.loop-part.part c.loop-part.room c.loop-part.page c.loop-part.found.pages c.loop-part.found.value _ _ _ _ c.loop-part.invariant (c.in-Some.here.next, c.in-Some.here.bytes) c.loop-part-test.true (of_some (λ (q : Part). c.args.size ≤ length q.bytes + 48) _ c.in-Some.here c.in_ok-here.ensures.long c.in-Some.is)
     (λ told. sym (c.in_ok-here.ensures.value (rw c.loop-part.invariant.rested.frame.told told)) ∙ ap (λ (o : Option Part). held_in o) c.in-Some.is)
-    _ _ c.part_at.ensures.frame c.part_at.ensures.names (c.in_ok-here.ensures.fine (λ e. not_failed e)) c.part_at.ensures.rests c.push.new.self c.append.new.self (c.loop-part.room - (c.args.size - 48)) c.in_ok-push.ensures.ok
-    (c.in_ok-append.ensures.ok ∙ ap (λ (l : List ℕ). c.loop-part.found.value ++ l) (c.split_at.ensures.front ∙ ap (λ (l : List ℕ). take (c.args.size - 48) l) c.as_slice.ensures)) refl
+    _ _ c.part_at.ensures.frame c.part_at.ensures.names (c.in_ok-here.ensures.fine (λ e. not_failed e)) c.part_at.ensures.rests c.add.new.self.pages c.add.new.self.value (c.loop-part.room - (c.args.size - 48)) c.in_ok-add.ensures.pages
+    (c.in_ok-add.ensures.value ∙ ap (λ (l : List ℕ). c.loop-part.found.value ++ l) (c.split_at.ensures.front ∙ ap (λ (l : List ℕ). take (c.args.size - 48) l) c.as_slice.ensures)) refl
 
-pub returns-in_default-2-clause-value : goal.returns-in_default-2-clause-value
+pub returns-in_default-2-clause-none : goal.returns-in_default-2-clause-none
 unfolding held_in
-returns-in_default-2-clause-value g c = λ told.
+returns-in_default-2-clause-none g c = λ _ told.
     let told_b : IsTrue (g.D.Device.state c.loop-part.device).told = rw c.loop-part.invariant.rested.frame.told told in
     let last : c.loop-part.part ≡ c.args.pages - 1 = omega (arith, c.loop-part-test.false, c.loop-part.auto.part-end) in
     none_last c.args.size c.args.count c.args.key.now c.args.whole c.args.pages c.args.first c.loop-part.part c.loop-part.room c.loop-part.page c.loop-part.found.pages c.loop-part.found.value _ _ _ _ c.loop-part.invariant (c.args.pages - 1) last refl told (sym (c.in_ok-here-2.ensures.value told_b) ∙ ap (λ (o : Option Part). held_in o) c.in_default-2.is)
 
-pub returns-then-here-clause-value : goal.returns-then-here-clause-value
+pub returns-then-here-clause-none : goal.returns-then-here-clause-none
 unfolding held_in
-returns-then-here-clause-value g c = λ told.
+returns-then-here-clause-none g c = λ _ told.
     let told_b : IsTrue (g.D.Device.state c.loop-part.device).told = rw c.loop-part.invariant.rested.frame.told told in
     let last : c.loop-part.part ≡ c.args.pages - 1 = omega (arith, c.loop-part-test.false, c.loop-part.auto.part-end) in
     sym (not_last c.loop-part.found.pages c.loop-part.found.value c.loop-part.room c.loop-part.page (c.in-Some-2.here.next, c.in-Some-2.here.bytes) c.if-here.true)
@@ -45,10 +45,10 @@ returns-then-here-clause-value g c = λ told.
 
 pub returns-clause-value : goal.returns-clause-value
 unfolding held_in
-returns-clause-value g c = λ told.
+returns-clause-value g c = λ _ told.
     let told_b : IsTrue (g.D.Device.state c.loop-part.device).told = rw c.loop-part.invariant.rested.frame.told told in
     let last : c.loop-part.part ≡ c.args.pages - 1 = omega (arith, c.loop-part-test.false, c.loop-part.auto.part-end) in
-    some_chain _ _ _ _ c.in_ok-push-2.ensures.ok (c.in_ok-append-2.ensures.ok ∙ ap (λ (l : List ℕ). c.loop-part.found.value ++ l) (c.split_at-2.ensures.front ∙ ap (λ (l : List ℕ). take c.loop-part.room l) c.as_slice-2.ensures))
+    some_chain _ _ _ _ c.in_ok-add-2.ensures.pages (c.in_ok-add-2.ensures.value ∙ ap (λ (l : List ℕ). c.loop-part.found.value ++ l) (c.split_at-2.ensures.front ∙ ap (λ (l : List ℕ). take c.loop-part.room l) c.as_slice-2.ensures))
     ∙ sym (is_last c.loop-part.found.pages c.loop-part.found.value c.loop-part.room c.loop-part.page (c.in-Some-2.here.next, c.in-Some-2.here.bytes) c.if-here.false)
     ∙ last_now c.args.size c.args.count c.args.key.now c.args.whole c.args.pages c.args.first c.loop-part.part c.loop-part.room c.loop-part.page c.loop-part.found.pages c.loop-part.found.value _ _ _ _ c.loop-part.invariant (c.in-Some-2.here.next, c.in-Some-2.here.bytes) (c.args.pages - 1) last refl told
     (sym (c.in_ok-here-2.ensures.value told_b) ∙ ap (λ (o : Option Part). held_in o) c.in-Some-2.is)
@@ -57,12 +57,12 @@ pub returns-clause-rests : goal.returns-clause-rests
 returns-clause-rests g c = rests_after _ _ _ _ c.loop-part.invariant.rested _ _ c.part_at-2.ensures.rests
 
 pub returns-clause-pages : goal.returns-clause-pages
-returns-clause-pages g c =
+returns-clause-pages g c = λ _.
     last_pages c.args.size c.args.count c.args.key.now c.args.whole c.args.pages c.args.first c.loop-part.part c.loop-part.room c.loop-part.page c.loop-part.found.pages c.loop-part.found.value _ _ _ _ c.loop-part.invariant (c.in-Some-2.here.next, c.in-Some-2.here.bytes)
-    (omega (arith, c.loop-part-test.false, c.loop-part.auto.part-end)) c.push-2.new.self c.in_ok-push-2.ensures.ok
+    (omega (arith, c.loop-part-test.false, c.loop-part.auto.part-end)) c.add-2.new.self.pages c.in_ok-add-2.ensures.pages
 
 pub returns-clause-length : goal.returns-clause-length
-returns-clause-length g c =
+returns-clause-length g c = λ _.
     last_bytes c.args.size c.args.count c.args.key.now c.args.whole c.args.pages c.args.first c.loop-part.part c.loop-part.room c.loop-part.page c.loop-part.found.pages c.loop-part.found.value _ _ _ _ c.loop-part.invariant (c.in-Some-2.here.next, c.in-Some-2.here.bytes)
     (omega (arith, c.loop-part-test.false, c.loop-part.auto.part-end)) (of_some (λ (q : Part). c.args.size ≤ length q.bytes + 48) _ c.in-Some-2.here c.in_ok-here-2.ensures.long c.in-Some-2.is)
-    c.append-2.new.self (c.in_ok-append-2.ensures.ok ∙ ap (λ (l : List ℕ). c.loop-part.found.value ++ l) (c.split_at-2.ensures.front ∙ ap (λ (l : List ℕ). take c.loop-part.room l) c.as_slice-2.ensures))
+    c.add-2.new.self.value (c.in_ok-add-2.ensures.value ∙ ap (λ (l : List ℕ). c.loop-part.found.value ++ l) (c.split_at-2.ensures.front ∙ ap (λ (l : List ℕ). take c.loop-part.room l) c.as_slice-2.ensures))
