@@ -92,9 +92,8 @@ impl Draft {
         let count = charge(value.len() as u64, size) as usize;
         let pages = planned(alloc, plan, self.taken, count)?;
         let chain = Chain { key, pages };
-        self.freed.extend_from_slice(self.table.pages(&key))?;
         put_chain(alloc, size, &chain, value, &mut self.writes)?;
-        let place = self.table.put(chain)?;
+        let place = self.table.put(chain, &mut self.freed)?;
         self.touch(size, place);
         self.taken += count;
         Ok(())
@@ -107,8 +106,7 @@ impl Draft {
         ensures ok { OnOk result (IsRemoved size key.now self.old self.new) }
         ensures before { self.new.before ≡ self.old.before }
     {
-        self.freed.extend_from_slice(self.table.pages(key))?;
-        if let Some(place) = self.table.remove(key)? {
+        if let Some(place) = self.table.remove(key, &mut self.freed)? {
             self.touch(size, place);
         }
         Ok(())

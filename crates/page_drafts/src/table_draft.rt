@@ -1,5 +1,5 @@
 //! A table of slots that is being changed, and that can be taken back.
-ghost use Rattle.std.specs.Prelude.{◌≡◌, ◌<◌, ◌≤◌, ◌+◌, [], ℕ, Some, None, length, get_or, set, IfSome, IfNone, IfOk, OnOk, vec_len, vec_capacity};
+ghost use Rattle.std.specs.Prelude.{◌≡◌, ◌<◌, ◌≤◌, ◌+◌, ◌++◌, ℕ, Some, None, length, get_or, set, IfSome, IfNone, IfOk, OnOk, vec_len, vec_capacity};
 ghost use Rattle.kdcfile_layout.specs.declared.chain.Chain.{Chain as ChainIs};
 ghost use Rattle.kdcfile_layout.specs.Places.{At};
 ghost use Rattle.kdcfile_layout.specs.Layout.{used};
@@ -16,10 +16,17 @@ use std::mem;
 
 /// A table with changes made in it, and what takes them back. Contracts see the slots as they are now, and as they were
 /// before.
-#[derive(Drop)]
 pub struct TableDraft {
     parts: TableParts,
     undo: Vec<Undo>,
+}
+
+impl Drop for TableDraft {
+    fn drop(self) {
+        let TableDraft { parts, undo } = self;
+        let _ = parts;
+        let _ = undo;
+    }
 }
 
 impl Model for TableDraft {
@@ -64,28 +71,6 @@ impl TableDraft {
         ensures { result.now ≡ self.now.slots }
     {
         self.parts.slots.as_slice()
-    }
-
-    /// The slot of a key.
-    pub fn place(&self, key: &RecordKey) -> Option<usize>
-        ensures place { IfSome result (λ s. IsPlaceFor key.now s self.now.slots) }
-        ensures none { IfNone result (IsAbsent key.now self.now.slots) }
-    {
-        match place_in(&self.parts, key) {
-            Some(place) => Some(place as usize),
-            None => None,
-        }
-    }
-
-    /// The pages of a key's chain, in the order of its parts; none where it has no slot.
-    pub fn pages(&self, key: &RecordKey) -> &[u32]
-        ensures place { (s : ℕ) → IsPlaceFor key.now s self.now.slots → result.now ≡ pages_in (get_or self.now.slots s None) }
-        ensures absent { IsAbsent key.now self.now.slots → result.now ≡ [] }
-    {
-        match self.place(key) {
-            Some(place) => self.pages_at(place),
-            None => &[],
-        }
     }
 
     // The pages of the chain in a slot.
@@ -133,15 +118,18 @@ impl TableDraft {
         Ok(place)
     }
 
-    /// Gives its key this chain, in the slot that it has or in a free one, and answers the slot.
-    pub fn put(&mut self, chain: Chain) -> Result<usize, OutOfMemory>
+    /// Gives its key this chain, in the slot that it has or in a free one, and answers the slot. The pages of the chain
+    /// that was there are added to the freed ones.
+    pub fn put(&mut self, chain: Chain, freed: &mut Vec<u32>) -> Result<usize, OutOfMemory>
         requires room { IsAbsent chain.key self.old.slots → used self.old.slots < length self.old.slots }
         ensures place { IfOk result (λ s. IsPlaceFor chain.key s self.old.slots) }
         ensures ok { IfOk result (λ s. self.new.slots ≡ set self.old.slots s (Some chain)) }
+        ensures freed { IfOk result (λ s. freed.new.items ≡ freed.old.items ++ pages_in (get_or self.old.slots s None)) }
         ensures before { self.new.before ≡ self.old.before }
     {
         match place_in(&self.parts, &chain.key) {
             Some(place) => {
+                freed.extend_from_slice(self.pages_at(place as usize))?;
                 self.replace(place, chain)?;
                 Ok(place as usize)
             }
@@ -149,17 +137,25 @@ impl TableDraft {
         }
     }
 
-    /// Frees the slot of a key, if it has one, and answers it.
-    pub fn remove(&mut self, key: &RecordKey) -> Result<Option<usize>, OutOfMemory>
+    /// Frees the slot of a key, if it has one, and answers it. The pages of the chain that was there are added to the freed
+    /// ones.
+    pub fn remove(
+        &mut self,
+        key: &RecordKey,
+        freed: &mut Vec<u32>,
+    ) -> Result<Option<usize>, OutOfMemory>
         ensures place { IfOk result (λ r. IfSome r (λ s. IsPlaceFor key.now s self.old.slots)) }
         ensures some { IfOk result (λ r. IfSome r (λ s. self.new.slots ≡ set self.old.slots s None)) }
+        ensures freed { IfOk result (λ r. IfSome r (λ s. freed.new.items ≡ freed.old.items ++ pages_in (get_or self.old.slots s None))) }
         ensures absent { IfOk result (λ r. IfNone r (IsAbsent key.now self.old.slots)) }
         ensures none { IfOk result (λ r. IfNone r (self.new.slots ≡ self.old.slots)) }
+        ensures none_freed { IfOk result (λ r. IfNone r (freed.new.items ≡ freed.old.items)) }
         ensures before { self.new.before ≡ self.old.before }
     {
         let Some(place) = place_in(&self.parts, key) else {
             return Ok(None);
         };
+        freed.extend_from_slice(self.pages_at(place as usize))?;
         self.free_place(place)?;
         Ok(Some(place as usize))
     }
@@ -184,8 +180,10 @@ impl TableDraft {
     pub fn back(self) -> Table
         ensures { result ≡ self.before }
     {
-        let mut parts = self.parts;
-        let mut undo = self.undo;
+        let TableDraft {
+            mut parts,
+            mut undo,
+        } = self;
         while let Some(last) = undo.pop() {
             take_back(&mut parts, last);
         }
@@ -196,8 +194,10 @@ impl TableDraft {
     pub fn done(self) -> Table
         ensures { result ≡ self.slots }
     {
-        let mut parts = self.parts;
-        let mut undo = self.undo;
+        let TableDraft {
+            mut parts,
+            mut undo,
+        } = self;
         while let Some(last) = undo.pop() {
             forget(&mut parts, last);
         }
