@@ -6,10 +6,17 @@ use page_drafts::{Table, TableDraft};
 use std::alloc::Global;
 
 /// The slots of a directory, and the content whose records they name.
-#[derive(Drop)]
 pub(crate) struct Filed {
     pub table: Table,
     pub content: Content,
+}
+
+impl Drop for Filed {
+    fn drop(self) {
+        let Filed { table, content } = self;
+        let _ = table;
+        let _ = content;
+    }
 }
 
 impl Filed {
@@ -23,6 +30,14 @@ impl Filed {
                 items: Records::new(alloc),
             },
         }
+    }
+
+    /// Its table and its content.
+    pub fn into_parts(self) -> (Table, Content)
+        ensures { result ≡ (self.table, self.content) }
+    {
+        let Filed { table, content } = self;
+        (table, content)
     }
 }
 

@@ -121,7 +121,7 @@ pub(crate) fn make_next(
     let Ok(plan) = next_plan(alloc, image, pool, patch) else {
         return Err(filed);
     };
-    let Filed { table, content } = filed;
+    let (table, content) = filed.into_parts();
     let content = match content.patch_in_place(alloc, patch) {
         Ok(content) => content,
         Err(content) => return Err(Filed { table, content }),
