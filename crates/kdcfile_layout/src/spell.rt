@@ -1,10 +1,11 @@
 //! Pages as bytes.
-ghost use Rattle.std.specs.Prelude.{◌≡◌, ◌≤◌, ◌<◌, ◌+◌, ◌-◌, ◌*◌, ◌/◌, ◌^◌, ◌++◌, ◌∷◌, [], List, length, drop, IfOk, OnOk};
+ghost use Rattle.std.specs.Prelude.{◌≡◌, ◌≤◌, ◌<◌, ◌+◌, ◌-◌, ◌*◌, ◌/◌, ◌^◌, ◌++◌, ◌∷◌, [], List, Some, length, take, drop, IfOk, OnOk};
 ghost use Rattle.std.specs.List.{flat_map};
 ghost use Rattle.std.specs.Int.{w32, to_be_bytes};
 ghost use Rattle.kd_records.specs.Charge.{IsBlockSize};
-ghost use Rattle.kdcfile_layout.specs.Layout.{zeros, spelled_slot, directory_text, chain_head, first_of_pages, record_parts, page_place};
+ghost use Rattle.kdcfile_layout.specs.Layout.{zeros, free_slot, spelled_slot, directory_text, chain_head, first_of_pages, record_parts, page_place};
 ghost use Rattle.kdcfile_layout.specs.Pages.{padded, page_writes};
+ghost use Rattle.kdcfile_layout.specs.declared.chain.Chain.{Chain as ChainIs};
 
 use crate::chain::Chain;
 use crate::page::PageWrite;
@@ -166,15 +167,26 @@ fn used_slot(key: &RecordKey, page: u32) -> [u8; 32]
     slot
 }
 
-#[tactic(auto, unfolding(crate::specs::Layout::spelled_slot, crate::specs::Layout::zeros))]
-// A slot, as its bytes.
-fn slot_bytes(slot: &Option<Chain>) -> [u8; 32]
-    ensures { result ≡ spelled_slot slot.now }
+#[tactic(auto, unfolding(crate::specs::Layout::spelled_slot))]
+// Puts a slot into a page at this place. A free one leaves what is there.
+fn put_slot(page: &mut Vec<u8>, at: usize, slot: &Option<Chain>)
+    requires there { at + 32 ≤ length page.old.items }
+    ensures none { slot.now ≡ free_slot → page.new.items ≡ page.old.items }
+    ensures length { (c : ChainIs) → slot.now ≡ Some c → length (spelled_slot slot.now) ≡ 32 }
+    ensures some { (c : ChainIs) → slot.now ≡ Some c → page.new.items ≡ take at page.old.items ++ spelled_slot slot.now ++ drop (at + 32) page.old.items }
 {
-    match slot {
-        None => [0; 32],
-        Some(chain) => used_slot(&chain.key, first_page(chain.pages.as_slice())),
+    if let Some(chain) = slot {
+        let bytes = used_slot(&chain.key, first_page(chain.pages.as_slice()));
+        page[at..at + 32].copy_from_slice(&bytes);
     }
+}
+
+#[tactic(auto, unfolding(crate::specs::Layout::zeros))]
+// So many zero bytes.
+fn zero_page(alloc: Global, size: u32) -> Result<Vec<u8>, OutOfMemory>
+    ensures { IfOk result (λ v. v.items ≡ zeros size) }
+{
+    Ok(vec![in alloc; 0; size as usize]?)
 }
 
 // The slots of a directory page, as its bytes.
@@ -184,12 +196,11 @@ fn slots_page(alloc: Global, size: u32, slots: &[Option<Chain>]) -> Result<Bytes
     ensures bytes { IfOk result (λ b. b ≡ padded size (flat_map spelled_slot slots.now)) }
     ensures fits { OnOk result (length (flat_map spelled_slot slots.now) ≤ size) }
 {
-    let mut out = Vec::with_capacity(alloc, size as usize)?;
-    for slot in slots {
-        out.extend_from_slice(&slot_bytes(slot))?;
+    let mut page = zero_page(alloc, size)?;
+    for n in 0..slots.len() {
+        put_slot(&mut page, 32 * n, &slots[n]);
     }
-    pad(&mut out, size)?;
-    Ok(Bytes::from_vec(out))
+    Ok(Bytes::from_vec(page))
 }
 
 /// The k-th page of a directory, from 0 on, with the slots that are its own.

@@ -1,7 +1,7 @@
 -- A fresh file: its bytes in parts, and what a stop within its making leaves.
 use Rattle.std.proofs.Common.{◌≡◌, inl, inr, ⊎_elim, ℕ, suc, ◌+◌, ◌-◌, ◌*◌, ◌<◌, ◌≤◌, ◌^◌, min, false, List, [], ◌∷◌, ◌++◌, length, take, replicate, Bor, refl, sym, ap, subst, ◌∙◌, arith}
 use Rattle.std.proofs.Common.{append_assoc, length-append}
-use Rattle.std.proofs.lemmas.List.{append-nil, take-replicate, replicate-append-replicate}
+use Rattle.std.proofs.lemmas.List.{append-nil, take-replicate}
 use Rattle.kd_device.specs.Device.{State, LeavesOnly, Only, Quiet}
 use Rattle.kd_device.specs.TimeLaws.{leaves_weaker, leaves_then, quiet_leaves}
 use Rattle.kd_records.specs.Charge.{IsBlockSize}
@@ -17,6 +17,7 @@ use Rattle.kdcfile_layout.specs.declared.kdcfile_images.image.Root.{Root}
 use Rattle.kdcfile_layout.specs.Opened.{IsOpened}
 use Rattle.kdcfile_layout.specs.Commit.{spelled_root}
 use Rattle.kdcfile_layout.specs.Fresh.{numbers, fresh_root}
+use Rattle.kdcfile_layout.proofs.Zeros.{zeros_then}
 use Rattle.kdcfile_layout.proofs.kdcfile_images.Committing.{length_spelled_root}
 use Rattle.kdcfile_layout.specs.FreshLaws.{length_numbers, shut_no_image, fresh_stands, length_fresh}
 
@@ -40,10 +41,6 @@ zeros_in_all buffer n is = is ∙ ap (λ (m : ℕ). zeros m) (sym (ap (λ (l : L
 front_zeros : (m n : ℕ) → m ≤ n → take m (zeros n) ≡ zeros m
 unfolding zeros
 front_zeros m n le = take-replicate m n 0 le
-
-zeros_then : (m n : ℕ) → zeros m ++ zeros n ≡ zeros (m + n)
-unfolding zeros
-zeros_then m n = replicate-append-replicate m n 0
 
 no_zeros : (xs : List ℕ) (n : ℕ) → xs ++ zeros (n - n) ≡ xs
 unfolding zeros
