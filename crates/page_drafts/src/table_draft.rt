@@ -16,17 +16,10 @@ use std::mem;
 
 /// A table with changes made in it, and what takes them back. Contracts see the slots as they are now, and as they were
 /// before.
+#[derive(Drop)]
 pub struct TableDraft {
     parts: TableParts,
     undo: Vec<Undo>,
-}
-
-impl Drop for TableDraft {
-    fn drop(self) {
-        let TableDraft { parts, undo } = self;
-        let _ = parts;
-        let _ = undo;
-    }
 }
 
 impl Model for TableDraft {
@@ -180,10 +173,8 @@ impl TableDraft {
     pub fn back(self) -> Table
         ensures { result ≡ self.before }
     {
-        let TableDraft {
-            mut parts,
-            mut undo,
-        } = self;
+        let mut parts = self.parts;
+        let mut undo = self.undo;
         while let Some(last) = undo.pop() {
             take_back(&mut parts, last);
         }
@@ -194,10 +185,8 @@ impl TableDraft {
     pub fn done(self) -> Table
         ensures { result ≡ self.slots }
     {
-        let TableDraft {
-            mut parts,
-            mut undo,
-        } = self;
+        let mut parts = self.parts;
+        let mut undo = self.undo;
         while let Some(last) = undo.pop() {
             forget(&mut parts, last);
         }
