@@ -3,11 +3,11 @@
 use crate::definition_details::detail_of;
 use crate::draft::Draft;
 use crate::lab_findings::{Details, Refusals, TextName, first_word, nearest, without_blanks};
-use crate::parts::{Parts, joined};
+use crate::parts::{Parts, Which, joined};
 use application_check::kdcdef_check::CheckFault;
 use application_read::{DefinitionFault, generate};
 use application_types::generation::Generation;
-use kd_base::{Bytes, OutOfMemory};
+use kd_base::OutOfMemory;
 use kdcdef_read::ReadFault;
 use std::alloc::Global;
 use texts::kdcdef_lex::LexFault;
@@ -34,100 +34,108 @@ pub(crate) struct Mended {
     pub generation: Generation,
 }
 
-// Whether what was found is no fault at this line.
-fn leaves_line(found: Result<Generation, DefinitionFault>, line: u32) -> Result<bool, OutOfMemory> {
-    match found {
-        Ok(_) => Ok(true),
+// The fault of a text, if it has one.
+fn fault_of(alloc: Global, text: &[u8]) -> Result<Option<DefinitionFault>, OutOfMemory> {
+    match generate(alloc, text) {
+        Ok(_) => Ok(None),
         Err(DefinitionFault::Memory) => Err(OutOfMemory),
-        Err(fault) => Ok(fault.line() != line),
+        Err(fault) => Ok(Some(fault)),
     }
 }
 
-// Whether the text has no fault at this line, where another statement takes the place of the one there.
-fn is_mended(
+/// The fault of the text where another statement takes the place of the one at this line.
+pub(crate) fn fault_with(
     alloc: Global,
     draft: &Draft,
     line: u32,
-    statement: &Bytes,
+    statement: &[u8],
+) -> Result<Option<DefinitionFault>, OutOfMemory> {
+    let text = draft.text_with(alloc, line, draft.last_of(line), statement)?;
+    fault_of(alloc, text.as_slice())
+}
+
+// Puts another statement in place of the one at this line, if the text has no fault there then.
+fn try_statement(
+    alloc: Global,
+    draft: &mut Draft,
+    line: u32,
+    statement: &[u8],
 ) -> Result<bool, OutOfMemory> {
-    let text = draft.text_with(alloc, line, draft.last_of(line), statement.as_slice())?;
-    leaves_line(generate(alloc, text.as_slice()), line)
-}
-
-// The statement at this line without the one of its operands that is at fault, if there is one.
-fn without_operand(
-    alloc: Global,
-    draft: &Draft,
-    line: u32,
-    parts: &Parts,
-) -> Result<Option<Bytes>, OutOfMemory> {
-    if parts.len() > MOST_OPERANDS {
-        return Ok(None);
-    }
-    for i in 0..parts.len() {
-        let statement = parts.without(i)?;
-        if is_mended(alloc, draft, line, &statement)? {
-            return Ok(Some(statement));
+    match fault_with(alloc, draft, line, statement)? {
+        Some(fault) if fault.line() == line => Ok(false),
+        _ => {
+            draft.put_statement(alloc, line, &[statement])?;
+            Ok(true)
         }
     }
-    Ok(None)
 }
 
-// The name of the statement at this line and this behind it, if that makes a statement without a fault.
-fn with_ending(
+// Takes the one of the operands that is at fault out of the statement at this line, if there is one.
+fn leave_operand_out(
     alloc: Global,
-    draft: &Draft,
+    draft: &mut Draft,
     line: u32,
-    parts: &Parts,
+    parts: Parts,
+) -> Result<bool, OutOfMemory> {
+    let count = parts.len();
+    if count > MOST_OPERANDS {
+        return Ok(false);
+    }
+    for i in 0..count {
+        let statement = parts.with(alloc, Which::AllBut(i))?;
+        if try_statement(alloc, draft, line, statement.as_slice())? {
+            return Ok(true);
+        }
+    }
+    Ok(false)
+}
+
+// Puts the name of the statement at this line and this behind it in its place, if that has no fault.
+fn try_ending(
+    alloc: Global,
+    draft: &mut Draft,
+    line: u32,
+    parts: Parts,
     ending: &[u8],
-) -> Result<Option<Bytes>, OutOfMemory> {
+) -> Result<bool, OutOfMemory> {
     let statement = parts.first_with(alloc, ending)?;
-    if is_mended(alloc, draft, line, &statement)? {
-        return Ok(Some(statement));
-    }
-    Ok(None)
+    try_statement(alloc, draft, line, statement.as_slice())
 }
 
-// The statement at this line with its name and no more than what is required, if that has no fault.
-fn with_name_alone(
+// The same with the program that the statement names behind its name.
+fn try_program(
     alloc: Global,
-    draft: &Draft,
+    draft: &mut Draft,
     line: u32,
-    parts: &Parts,
-) -> Result<Option<Bytes>, OutOfMemory> {
-    if let Some(statement) = with_ending(alloc, draft, line, parts, b"")? {
-        return Ok(Some(statement));
-    }
-    if let Some(statement) = with_ending(alloc, draft, line, parts, b",KEYS=1")? {
-        return Ok(Some(statement));
-    }
+    parts: Parts,
+) -> Result<bool, OutOfMemory> {
     let name = parts.value("PROGRAM").unwrap_or(b"");
-    let program = joined(alloc, &[b",PROGRAM=", name])?;
-    with_ending(alloc, draft, line, parts, program.as_slice())
+    let ending = joined(alloc, &[b",PROGRAM=", name])?;
+    try_ending(alloc, draft, line, parts, ending.as_slice())
 }
 
-// The parts of the statement at this line.
-pub(crate) fn parts_at(alloc: Global, draft: &Draft, line: u32) -> Result<Parts, OutOfMemory> {
-    Parts::of(alloc, draft.statement(alloc, line)?.as_slice())
-}
-
-// The statement at this line without what is at fault in it; empty where none is left.
-fn without_fault(alloc: Global, draft: &Draft, line: u32) -> Result<Bytes, OutOfMemory> {
-    let parts = parts_at(alloc, draft, line)?;
-    if let Some(statement) = without_operand(alloc, draft, line, &parts)? {
-        return Ok(statement);
-    }
-    match with_name_alone(alloc, draft, line, &parts)? {
-        Some(statement) => Ok(statement),
-        None => Ok(Bytes::new(alloc)),
-    }
+// Leaves the statement at this line its name and no more than what is required, if that has no fault.
+fn leave_name(
+    alloc: Global,
+    draft: &mut Draft,
+    line: u32,
+    parts: Parts,
+) -> Result<bool, OutOfMemory> {
+    Ok(
+        try_ending(alloc, draft, line, parts, b"")?
+            || try_ending(alloc, draft, line, parts, b",KEYS=1")?
+            || try_program(alloc, draft, line, parts)?,
+    )
 }
 
 // Mends the statement at this line, or takes it away.
 fn mend_statement(alloc: Global, draft: &mut Draft, line: u32) -> Result<(), OutOfMemory> {
-    let last = draft.last_of(line);
-    let statement = without_fault(alloc, draft, line)?;
-    draft.replace_all(alloc, line, last, statement.as_slice())
+    let text = draft.statement(alloc, line)?;
+    let parts = Parts::of(text.as_slice());
+    if leave_operand_out(alloc, draft, line, parts)? || leave_name(alloc, draft, line, parts)? {
+        return Ok(());
+    }
+    draft.clear(alloc, line)
 }
 
 // Puts a statement that a statement at this line names before it: the keyword, and the value of an operand of it.
@@ -137,21 +145,22 @@ fn put_named(
     line: u32,
     keyword: &str,
 ) -> Result<(), OutOfMemory> {
-    let parts = parts_at(alloc, draft, line)?;
-    let name = parts.value(keyword).unwrap_or(b"");
-    let text = joined(alloc, &[keyword.as_bytes(), b" ", name])?;
-    draft.put_before(alloc, line, text.as_slice())
+    let statement = draft.statement(alloc, line)?;
+    let name = Parts::of(statement.as_slice())
+        .value(keyword)
+        .unwrap_or(b"");
+    draft.put_before(alloc, line, &[keyword.as_bytes(), b" ", name])
 }
 
 // Takes PGPOOL out of the statement at this line, where it has one.
 fn without_pool(alloc: Global, draft: &mut Draft, line: u32) -> Result<(), OutOfMemory> {
-    let parts = parts_at(alloc, draft, line)?;
+    let text = draft.statement(alloc, line)?;
+    let parts = Parts::of(text.as_slice());
     let Some(place) = parts.place("PGPOOL") else {
         return Ok(());
     };
-    let statement = parts.without(place)?;
-    let last = draft.last_of(line);
-    draft.replace_all(alloc, line, last, statement.as_slice())
+    let statement = parts.with(alloc, Which::AllBut(place))?;
+    draft.put_statement(alloc, line, &[statement.as_slice()])
 }
 
 // Another PGPOOL, which is put before END at this line; false where that was done.
@@ -162,69 +171,62 @@ fn mend_pool(alloc: Global, draft: &mut Draft, end: u32) -> Result<bool, OutOfMe
     for line in 1..end {
         without_pool(alloc, draft, line)?;
     }
-    draft.put_before(alloc, end, POOL)?;
+    draft.put_before(alloc, end, &[POOL])?;
     Ok(true)
 }
 
-fn mend_check(alloc: Global, draft: &mut Draft, fault: CheckFault) -> Result<bool, OutOfMemory> {
+// Mends the text for a fault of its statements together, which is none of the pool.
+fn mend_together(alloc: Global, draft: &mut Draft, fault: CheckFault) -> Result<(), OutOfMemory> {
     let line = fault.line();
     match fault {
-        CheckFault::NoMax(_) => draft.put_before(alloc, line, b"MAX APPLINAME=X")?,
-        CheckFault::NoUser(_) => draft.put_before(alloc, line, b"USER X")?,
-        CheckFault::NoProgram(_) => put_named(alloc, draft, line, "PROGRAM")?,
-        CheckFault::NoLterm(_) => put_named(alloc, draft, line, "LTERM")?,
-        CheckFault::PoolTooSmall(_) | CheckFault::PoolForDouble(_) => {
-            return mend_pool(alloc, draft, line);
-        }
-        _ => mend_statement(alloc, draft, line)?,
+        CheckFault::NoMax(_) => draft.put_before(alloc, line, &[b"MAX APPLINAME=X"]),
+        CheckFault::NoUser(_) => draft.put_before(alloc, line, &[b"USER X"]),
+        CheckFault::NoProgram(_) => put_named(alloc, draft, line, "PROGRAM"),
+        CheckFault::NoLterm(_) => put_named(alloc, draft, line, "LTERM"),
+        _ => mend_statement(alloc, draft, line),
     }
-    Ok(true)
 }
 
 // Puts a keyword that is nearly the same in place of one that no statement has, or takes the statement away. END would make
 // all statements behind it faults.
 fn mend_keyword(alloc: Global, draft: &mut Draft, line: u32) -> Result<(), OutOfMemory> {
-    let last = draft.last_of(line);
     let statement = draft.statement(alloc, line)?;
     let (word, rest) = first_word(without_blanks(statement.as_slice()));
-    let near = match nearest(word, KEYWORDS) {
-        Some(near) if near != "END" => near,
-        _ => return draft.clear(alloc, line),
-    };
-    let text = joined(alloc, &[near.as_bytes(), b" ", rest])?;
-    draft.replace_all(alloc, line, last, text.as_slice())
+    match nearest(word, KEYWORDS) {
+        Some(near) if near != "END" => {
+            draft.put_statement(alloc, line, &[near.as_bytes(), b" ", rest])
+        }
+        _ => draft.clear(alloc, line),
+    }
+}
+
+// Mends the text for a fault that is none of the pool.
+fn mend_lines(alloc: Global, draft: &mut Draft, fault: DefinitionFault) -> Result<(), OutOfMemory> {
+    match fault {
+        DefinitionFault::Lex(LexFault::DanglingContinuation(line)) => {
+            draft.end_statement(alloc, line)
+        }
+        DefinitionFault::Read(ReadFault::NoEnd(_)) => draft.put_before(alloc, u32::MAX, &[b"END"]),
+        DefinitionFault::Read(ReadFault::AfterEnd(line)) => draft.clear(alloc, line),
+        DefinitionFault::Read(ReadFault::UnknownStatement(line)) => {
+            mend_keyword(alloc, draft, line)
+        }
+        DefinitionFault::Check(fault) => mend_together(alloc, draft, fault),
+        fault => mend_statement(alloc, draft, fault.line()),
+    }
 }
 
 // Mends the text for a fault; false where it cannot be read on.
 fn mend(alloc: Global, draft: &mut Draft, fault: DefinitionFault) -> Result<bool, OutOfMemory> {
     match fault {
-        DefinitionFault::Memory | DefinitionFault::Lex(LexFault::TextTooLong) => return Ok(false),
-        DefinitionFault::Lex(LexFault::DanglingContinuation(line)) => {
-            draft.end_statement(alloc, line)?;
+        DefinitionFault::Memory | DefinitionFault::Lex(LexFault::TextTooLong) => Ok(false),
+        DefinitionFault::Check(CheckFault::PoolTooSmall(line) | CheckFault::PoolForDouble(line)) =>
+            { mend_pool(alloc, draft, line) }
+        fault => {
+            mend_lines(alloc, draft, fault)?;
+            Ok(true)
         }
-        DefinitionFault::Read(ReadFault::NoEnd(_)) => {
-            draft.put_before(alloc, u32::MAX, b"END")?;
-        }
-        DefinitionFault::Read(ReadFault::AfterEnd(line)) => draft.clear(alloc, line)?,
-        DefinitionFault::Read(ReadFault::UnknownStatement(line)) => {
-            mend_keyword(alloc, draft, line)?;
-        }
-        DefinitionFault::Check(fault) => return mend_check(alloc, draft, fault),
-        fault => mend_statement(alloc, draft, fault.line())?,
     }
-    Ok(true)
-}
-
-// Whether the statement at this line has this keyword, and an operand of this key where one is asked for.
-fn is_statement(
-    alloc: Global,
-    draft: &Draft,
-    line: u32,
-    keyword: &str,
-    key: Option<&str>,
-) -> Result<bool, OutOfMemory> {
-    let parts = parts_at(alloc, draft, line)?;
-    Ok(parts.has_keyword(keyword) && key.is_none_or(|key| parts.value(key).is_some()))
 }
 
 // Whether the text has a statement of this keyword, with an operand of this key where one is asked for.
@@ -234,13 +236,12 @@ fn has_statement(
     keyword: &str,
     key: Option<&str>,
 ) -> Result<bool, OutOfMemory> {
-    let draft = Draft::of(alloc, text)?;
-    let mut line: u32 = 1;
-    for _ in 0..draft.len() {
-        if is_statement(alloc, &draft, line, keyword, key)? {
+    let statements = Draft::of(alloc, text)?.statements(alloc)?;
+    for statement in &statements {
+        let parts = Parts::of(statement.as_slice());
+        if parts.has_keyword(keyword) && key.is_none_or(|key| parts.value(key).is_some()) {
             return Ok(true);
         }
-        line = draft.last_of(line).saturating_add(1);
     }
     Ok(false)
 }
@@ -284,6 +285,36 @@ fn tell(
     details.add(TextName::Definition, number, fault.name(), words)
 }
 
+// What a text generates, as far as it was mended.
+fn generated(alloc: Global, draft: &Draft) -> Result<Generation, DefinitionFault> {
+    match draft.text(alloc) {
+        Ok(text) => generate(alloc, text.as_slice()),
+        Err(OutOfMemory) => Err(DefinitionFault::Memory),
+    }
+}
+
+// Tells why a definition is refused, and mends it; what it generates then, or none where it cannot be read on.
+fn mend_all(
+    alloc: Global,
+    text: &[u8],
+    draft: &mut Draft,
+    refused: &mut Refusals,
+    details: &mut Details,
+) -> Result<Option<Generation>, OutOfMemory> {
+    for _ in 0..MOST_FAULTS {
+        let fault = match generated(alloc, draft) {
+            Ok(generation) => return Ok(Some(generation)),
+            Err(DefinitionFault::Memory) => return Err(OutOfMemory),
+            Err(fault) => fault,
+        };
+        tell(alloc, text, draft, fault, refused, details)?;
+        if !mend(alloc, draft, fault)? {
+            return Ok(None);
+        }
+    }
+    Ok(None)
+}
+
 /// Tells why a definition is refused, and mends it; none where it cannot be read on.
 pub(crate) fn definition_refusals(
     alloc: Global,
@@ -292,16 +323,8 @@ pub(crate) fn definition_refusals(
     details: &mut Details,
 ) -> Result<Option<Mended>, OutOfMemory> {
     let mut draft = Draft::of(alloc, text)?;
-    for _ in 0..MOST_FAULTS {
-        let fault = match generate(alloc, draft.text(alloc)?.as_slice()) {
-            Ok(generation) => return Ok(Some(Mended { draft, generation })),
-            Err(DefinitionFault::Memory) => return Err(OutOfMemory),
-            Err(fault) => fault,
-        };
-        tell(alloc, text, &draft, fault, refused, details)?;
-        if !mend(alloc, &mut draft, fault)? {
-            return Ok(None);
-        }
+    match mend_all(alloc, text, &mut draft, refused, details)? {
+        Some(generation) => Ok(Some(Mended { draft, generation })),
+        None => Ok(None),
     }
-    Ok(None)
 }

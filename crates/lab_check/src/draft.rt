@@ -1,6 +1,7 @@
 //! A text that is mended line by line, so that it can be read on behind a fault.
 
 use crate::lab_findings::up_to_last;
+use crate::parts::joined;
 use kd_base::{Bytes, OutOfMemory};
 use std::alloc::Global;
 use texts::len_before;
@@ -59,6 +60,22 @@ fn continued(bytes: &[u8]) -> Option<&[u8]> {
         [body @ .., b'\\'] => Some(body),
         _ => None,
     }
+}
+
+// A line of these pieces, with its end.
+fn line_of(alloc: Global, pieces: &[&[u8]]) -> Result<Bytes, OutOfMemory> {
+    let mut line = joined(alloc, pieces)?;
+    line.push(b'\n')?;
+    Ok(line)
+}
+
+// A line that is put in.
+fn made_line(alloc: Global, number: u32, pieces: &[&[u8]]) -> Result<DraftLine, OutOfMemory> {
+    Ok(DraftLine {
+        number,
+        is_made: true,
+        bytes: line_of(alloc, pieces)?,
+    })
 }
 
 impl Draft {
@@ -148,12 +165,21 @@ impl Draft {
             let Some(found) = self.line(i) else {
                 break;
             };
-            match continued(found.bytes.as_slice()) {
-                Some(body) => text.append(body)?,
-                None => text.append(content(found.bytes.as_slice()))?,
-            }
+            let bytes = found.bytes.as_slice();
+            text.append(continued(bytes).unwrap_or(content(bytes)))?;
         }
         Ok(text)
+    }
+
+    /// The statements of a definition, each with its lines joined; empty ones may follow them.
+    pub fn statements(&self, alloc: Global) -> Result<Vec<Bytes>, OutOfMemory> {
+        let mut statements = Vec::new(alloc);
+        let mut line: u32 = 1;
+        for _ in 0..self.lines.len() {
+            statements.push(self.statement(alloc, line)?)?;
+            line = self.last_of(line).saturating_add(1);
+        }
+        Ok(statements)
     }
 
     /// The whole text.
@@ -189,38 +215,40 @@ impl Draft {
         Ok(text)
     }
 
-    /// Puts this in place of a line, and an end behind it.
-    pub fn replace(&mut self, alloc: Global, line: u32, text: &[u8]) -> Result<(), OutOfMemory> {
-        let mut bytes = Bytes::from_slice(alloc, text)?;
-        bytes.push(b'\n')?;
+    /// Puts these pieces in place of a line, and an end behind them.
+    pub fn replace(
+        &mut self,
+        alloc: Global,
+        line: u32,
+        pieces: &[&[u8]],
+    ) -> Result<(), OutOfMemory> {
         let Some(index) = line.checked_sub(1) else {
             return Ok(());
         };
         if let Some(found) = self.lines.get_mut(index as usize) {
-            found.bytes = bytes;
+            found.bytes = line_of(alloc, pieces)?;
         }
         Ok(())
     }
 
-    /// Puts another statement in place of the one from this line to that.
-    pub fn replace_all(
+    /// Puts a statement of these pieces in place of the one that begins at this line.
+    pub fn put_statement(
         &mut self,
         alloc: Global,
-        from: u32,
-        to: u32,
-        statement: &[u8],
+        line: u32,
+        pieces: &[&[u8]],
     ) -> Result<(), OutOfMemory> {
-        self.replace(alloc, from, statement)?;
-        for line in from.saturating_add(1)..=to {
-            self.replace(alloc, line, &[])?;
+        let last = self.last_of(line);
+        self.replace(alloc, line, pieces)?;
+        for continued in line.saturating_add(1)..=last {
+            self.replace(alloc, continued, &[])?;
         }
         Ok(())
     }
 
     /// Empties the lines of the statement that begins at this line.
     pub fn clear(&mut self, alloc: Global, line: u32) -> Result<(), OutOfMemory> {
-        let last = self.last_of(line);
-        self.replace_all(alloc, line, last, &[])
+        self.put_statement(alloc, line, &[])
     }
 
     /// Takes the mark of a line that is continued away.
@@ -228,31 +256,29 @@ impl Draft {
         let Some(found) = self.line(line) else {
             return Ok(());
         };
-        let body = match continued(found.bytes.as_slice()) {
-            Some(body) => Bytes::from_slice(alloc, body)?,
-            None => Bytes::new(alloc),
-        };
-        self.replace(alloc, line, body.as_slice())
+        let body = Bytes::from_slice(alloc, continued(found.bytes.as_slice()).unwrap_or(b""))?;
+        self.replace(alloc, line, &[body.as_slice()])
     }
 
-    /// Puts a line before this one, or at the end where there is no such line.
-    pub fn put_before(&mut self, alloc: Global, line: u32, text: &[u8]) -> Result<(), OutOfMemory> {
+    /// Puts a line of these pieces before this one, or at the end where there is no such line.
+    pub fn put_before(
+        &mut self,
+        alloc: Global,
+        line: u32,
+        pieces: &[&[u8]],
+    ) -> Result<(), OutOfMemory> {
         let number = self.number_of(line);
-        let mut bytes = Bytes::from_slice(alloc, text)?;
-        bytes.push(b'\n')?;
-        let made = DraftLine {
-            number,
-            is_made: true,
-            bytes,
-        };
         let index = line.saturating_sub(1) as usize;
-        if index < self.lines.len() {
-            self.lines.insert(index, made)?;
-            return Ok(());
+        if index >= self.lines.len() {
+            self.end_last()?;
         }
-        self.end_last()?;
-        self.lines.push(made)?;
-        Ok(())
+        self.put(index, made_line(alloc, number, pieces)?)
+    }
+
+    // Puts a line at this place, from 0, or at the end.
+    fn put(&mut self, place: usize, line: DraftLine) -> Result<(), OutOfMemory> {
+        let index = place.min(self.lines.len());
+        Ok(self.lines.insert(index, line)?)
     }
 
     // Gives the last line an end, where it has none.

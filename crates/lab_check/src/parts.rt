@@ -41,146 +41,186 @@ fn behind(inside: Inside, byte: u8) -> Inside {
     }
 }
 
-/// A statement: its keyword and its operands.
-#[derive(Drop)]
-pub(crate) struct Parts {
-    keyword: Bytes,
-    operands: Vec<Bytes>,
-}
-
-// The operands, with the blanks between them.
-fn operands_of(alloc: Global, text: &[u8]) -> Result<Vec<Bytes>, OutOfMemory> {
-    let mut operands = Vec::new(alloc);
-    let mut operand = Bytes::new(alloc);
+// How many bytes are before the first comma that parts operands.
+fn len_before_comma(text: &[u8]) -> usize {
     let mut inside = Inside {
         quotes: false,
         list: false,
     };
-    for byte in text {
+    for (i, byte) in text.iter().enumerate() {
         if *byte == b',' && !inside.quotes && !inside.list {
-            operands.push(operand)?;
-            operand = Bytes::new(alloc);
-        } else {
-            operand.push(*byte)?;
+            return i;
         }
         inside = behind(inside, *byte);
     }
-    operands.push(operand)?;
-    Ok(operands)
+    text.len()
 }
 
-/// The key of an operand, if it has one.
-pub(crate) fn key_of(operand: &[u8]) -> Option<&[u8]> {
-    let n = len_before(b'=', operand);
-    if n >= operand.len() {
-        return None;
+/// Operands, with the blanks between them.
+#[derive(Clone, Copy)]
+struct Operands<'a> {
+    /// Those that are left, if there are some.
+    rest: Option<&'a [u8]>,
+}
+
+impl<'a> Operands<'a> {
+    // Takes the first operand.
+    fn next(&mut self) -> Option<&'a [u8]> {
+        let text = self.rest?;
+        let n = len_before_comma(text);
+        if n >= text.len() {
+            self.rest = None;
+            return Some(text);
+        }
+        let (operand, behind) = text.split_at(n);
+        self.rest = Some(&behind[1..]);
+        Some(operand)
     }
-    let (front, _) = operand.split_at(n);
-    Some(without_blanks(front))
 }
 
-// What is behind the key of an operand that has this key.
-fn behind_key<'a>(operand: &'a [u8], key: &str) -> Option<&'a [u8]> {
+// The key of an operand that has one, and what is behind it.
+fn split_key(operand: &[u8]) -> Option<(&[u8], &[u8])> {
     let n = len_before(b'=', operand);
     if n >= operand.len() {
         return None;
     }
     let (front, rest) = operand.split_at(n);
-    if !without_blanks(front).eq_ignore_ascii_case(key.as_bytes()) {
-        return None;
-    }
-    match rest {
-        [_, value @ ..] => Some(without_blanks(value)),
-        [] => None,
+    Some((without_blanks(front), without_blanks(&rest[1..])))
+}
+
+/// The key of an operand, if it has one.
+pub(crate) fn key_of(operand: &[u8]) -> Option<&[u8]> {
+    let (key, _) = split_key(operand)?;
+    Some(key)
+}
+
+// What is behind the key of an operand that has this key.
+fn behind_key<'a>(operand: &'a [u8], key: &str) -> Option<&'a [u8]> {
+    let (found, value) = split_key(operand)?;
+    if found.eq_ignore_ascii_case(key.as_bytes()) {
+        Some(value)
+    } else {
+        None
     }
 }
 
-impl Parts {
-    pub fn of(alloc: Global, text: &[u8]) -> Result<Parts, OutOfMemory> {
-        let (keyword, rest) = first_word(without_blanks(text));
-        Ok(Parts {
-            keyword: Bytes::from_slice(alloc, keyword)?,
-            operands: operands_of(alloc, rest)?,
-        })
+/// Which operands of a statement, by their places from 0.
+#[derive(Clone, Copy)]
+pub(crate) enum Which {
+    AllBut(usize),
+    UpTo(usize),
+}
+
+impl Which {
+    fn has(self, place: usize) -> bool {
+        match self {
+            Which::AllBut(left_out) => place != left_out,
+            Which::UpTo(last) => place <= last,
+        }
+    }
+}
+
+/// A statement: its keyword and its operands, of which there is one at least.
+#[derive(Clone, Copy)]
+pub(crate) struct Parts<'a> {
+    keyword: &'a [u8],
+    operands: &'a [u8],
+}
+
+impl<'a> Parts<'a> {
+    pub fn of(text: &'a [u8]) -> Parts<'a> {
+        let (keyword, operands) = first_word(without_blanks(text));
+        Parts { keyword, operands }
     }
 
-    pub fn keyword(&self) -> &[u8] {
-        self.keyword.as_slice()
+    pub fn keyword(&self) -> &'a [u8] {
+        self.keyword
     }
 
     pub fn has_keyword(&self, keyword: &str) -> bool {
-        self.keyword
-            .as_slice()
-            .eq_ignore_ascii_case(keyword.as_bytes())
+        self.keyword.eq_ignore_ascii_case(keyword.as_bytes())
+    }
+
+    fn operands(&self) -> Operands<'a> {
+        Operands {
+            rest: Some(self.operands),
+        }
     }
 
     /// How many operands there are.
     pub fn len(&self) -> usize {
-        self.operands.len()
+        let mut left = self.operands();
+        let mut count: usize = 0;
+        // Each but the last has a comma behind it.
+        for _ in 0..=self.operands.len() {
+            if left.next().is_none() {
+                break;
+            }
+            count = count.saturating_add(1);
+        }
+        count
     }
 
-    /// The statement without the operand at this place, from 0.
-    pub fn without(&self, left_out: usize) -> Result<Bytes, OutOfMemory> {
-        let mut text = self.keyword.clone()?;
-        let mut mark = b' ';
-        for (i, operand) in self.operands.iter().enumerate() {
-            if i != left_out {
-                text.push(mark)?;
-                text.append(operand.as_slice())?;
-                mark = b',';
+    // Adds these operands to the keyword.
+    fn add_to(&self, which: Which, text: &mut Bytes) -> Result<(), OutOfMemory> {
+        let mut left = self.operands();
+        let mut mark: &[u8] = b" ";
+        for place in 0..=self.operands.len() {
+            let Some(operand) = left.next() else {
+                break;
+            };
+            if which.has(place) {
+                text.append(mark)?;
+                text.append(operand)?;
+                mark = b",";
             }
         }
-        Ok(text)
+        Ok(())
     }
 
-    /// The statement up to the operand at this place, from 0.
-    pub fn up_to(&self, last: usize) -> Result<Bytes, OutOfMemory> {
-        let mut text = self.keyword.clone()?;
-        let mut mark = b' ';
-        for (i, operand) in self.operands.iter().enumerate() {
-            if i <= last {
-                text.push(mark)?;
-                text.append(operand.as_slice())?;
-                mark = b',';
-            }
-        }
+    /// The statement with these operands alone.
+    pub fn with(&self, alloc: Global, which: Which) -> Result<Bytes, OutOfMemory> {
+        let mut text = Bytes::from_slice(alloc, self.keyword)?;
+        self.add_to(which, &mut text)?;
         Ok(text)
     }
 
     /// The operand at this place, from 0, without the blanks around it; empty where there is none.
-    pub fn operand(&self, place: usize) -> &[u8] {
-        match self.operands.get(place) {
-            Some(operand) => without_blanks(operand.as_slice()),
-            None => b"",
+    pub fn operand(&self, place: usize) -> &'a [u8] {
+        let mut left = self.operands();
+        for _ in 0..place {
+            left.next();
         }
+        without_blanks(left.next().unwrap_or(b""))
     }
 
     /// The statement of its first operand, and these bytes behind it.
     pub fn first_with(&self, alloc: Global, behind: &[u8]) -> Result<Bytes, OutOfMemory> {
-        let keyword = self.keyword.as_slice();
-        match self.operands.first() {
-            Some(first) => joined(alloc, &[keyword, b" ", first.as_slice(), behind]),
-            None => joined(alloc, &[keyword, behind]),
-        }
+        let first = self.operands().next().unwrap_or(b"");
+        joined(alloc, &[self.keyword, b" ", first, behind])
     }
 
-    /// The value of the operand with this key, without the blanks around it.
-    pub fn value(&self, key: &str) -> Option<&[u8]> {
-        for operand in &self.operands {
-            if let Some(value) = behind_key(operand.as_slice(), key) {
-                return Some(value);
+    // The place of the operand with this key, from 0, and its value.
+    fn keyed(&self, key: &str) -> Option<(usize, &'a [u8])> {
+        let mut left = self.operands();
+        for place in 0..=self.operands.len() {
+            let operand = left.next()?;
+            if let Some(value) = behind_key(operand, key) {
+                return Some((place, value));
             }
         }
         None
+    }
+
+    /// The value of the operand with this key, without the blanks around it.
+    pub fn value(&self, key: &str) -> Option<&'a [u8]> {
+        let (_, value) = self.keyed(key)?;
+        Some(value)
     }
 
     /// The place of the operand with this key, from 0.
     pub fn place(&self, key: &str) -> Option<usize> {
-        for (i, operand) in self.operands.iter().enumerate() {
-            if behind_key(operand.as_slice(), key).is_some() {
-                return Some(i);
-            }
-        }
-        None
+        let (place, _) = self.keyed(key)?;
+        Some(place)
     }
 }

@@ -10,18 +10,26 @@ use script_read::{ScriptFault, read_script};
 use std::alloc::Global;
 use texts::next_line;
 
-// The name of the fault that a text has, if it has one.
+// The fault that a text has, if it has one.
 fn fault_of(
     alloc: Global,
     generation: &Generation,
     text: &[u8],
-) -> Result<Option<&'static str>, OutOfMemory> {
+) -> Result<Option<ScriptFault>, OutOfMemory> {
     match read_script(alloc, generation, text) {
         Ok(_) => Ok(None),
         Err(ScriptFault::Memory) => Err(OutOfMemory),
-        Err(ScriptFault::BadLine(_)) => Ok(Some("BadLine")),
-        Err(ScriptFault::OutOfRange(_)) => Ok(Some("OutOfRange")),
-        Err(ScriptFault::TooLong) => Ok(Some("TooLong")),
+        Err(fault) => Ok(Some(fault)),
+    }
+}
+
+// The name by which a fault is printed.
+fn name_of(fault: ScriptFault) -> &'static str {
+    match fault {
+        ScriptFault::BadLine(_) => "BadLine",
+        ScriptFault::OutOfRange(_) => "OutOfRange",
+        ScriptFault::TooLong => "TooLong",
+        ScriptFault::Memory => "Memory",
     }
 }
 
@@ -37,11 +45,12 @@ fn line_refusal(
 ) -> Result<(), OutOfMemory>
     ensures { OnOk result (AddsOfScript refused.old.items.items refused.new.items.items) }
 {
-    if let Some(name) = fault_of(alloc, generation, line)? {
-        refused.refuse(TextName::Script, number, name)?;
-        details.add(TextName::Script, number, name, command_detail(alloc, line)?)?;
-    }
-    Ok(())
+    let Some(fault) = fault_of(alloc, generation, line)? else {
+        return Ok(());
+    };
+    refused.refuse(TextName::Script, number, name_of(fault))?;
+    let words = command_detail(alloc, line)?;
+    details.add(TextName::Script, number, name_of(fault), words)
 }
 
 // Tells why the lines of a script are refused.
@@ -81,10 +90,7 @@ pub(crate) fn script_refusals(
     };
     match fault_of(alloc, generation, text)? {
         None => Ok(()),
-        Some("TooLong") => {
-            refused.refuse(TextName::Script, 0, "TooLong")?;
-            Ok(())
-        }
+        Some(ScriptFault::TooLong) => refused.refuse(TextName::Script, 0, "TooLong"),
         Some(_) => line_refusals(alloc, generation, text, refused, details),
     }
 }

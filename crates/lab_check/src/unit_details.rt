@@ -3,6 +3,7 @@
 use crate::definition_details::with_right;
 use crate::draft::Draft;
 use crate::lab_findings::{LineKind, first_word, is_near, kind_of, up_to_last, without_blanks};
+use crate::parts::joined;
 use application_check::unit_check::FitFault;
 use application_types::generation::Generation;
 use kd_base::{Bytes, OutOfMemory, ProgName};
@@ -138,21 +139,40 @@ fn without_literals(alloc: Global, line: &[u8]) -> Result<Bytes, OutOfMemory> {
     Ok(text)
 }
 
-// The field that a word of a statement names, if it may name one.
-fn field_in(word: &[u8]) -> Option<&[u8]> {
-    let name = match word {
-        [b'T', b'R', b'I', b'M', b'(', name @ .., b')'] => name,
-        _ => word,
-    };
+fn is_no_field(word: &[u8]) -> bool {
     for other in NO_FIELDS {
-        if name == other.as_bytes() {
-            return None;
+        if word == other.as_bytes() {
+            return true;
         }
     }
+    false
+}
+
+// The field that a word of a statement names, if it may name one.
+fn field_in(word: &[u8]) -> Option<&[u8]> {
+    let name = match word.strip_prefix(b"TRIM(") {
+        Some([name @ .., b')']) => name,
+        _ => word,
+    };
     match name {
-        [first, ..] if first.is_ascii_alphabetic() => Some(name),
+        [first, ..] if first.is_ascii_alphabetic() && !is_no_field(name) => Some(name),
         _ => None,
     }
+}
+
+// The first of the words that names no field of the unit of the line, though it may name one.
+fn unknown_field<'a>(draft: &Draft, line: u32, words: &'a [u8]) -> Option<&'a [u8]> {
+    let mut rest = words;
+    for _ in 0..words.len() {
+        let (word, behind) = first_word(rest);
+        if let Some(name) = field_in(word) {
+            if piece_like(draft, line, Piece::Field, name, true).is_empty() {
+                return Some(name);
+            }
+        }
+        rest = behind;
+    }
+    None
 }
 
 // The first word of a statement that names no field of its unit, and a field that is nearly it.
@@ -162,18 +182,15 @@ fn field_detail(alloc: Global, draft: &Draft, line: u32) -> Result<Bytes, OutOfM
         return Bytes::from_slice(alloc, name);
     }
     let text = without_literals(alloc, content)?;
-    let (_, mut rest) = first_word(without_blanks(text.as_slice()));
-    for _ in 0..text.len() {
-        let (word, behind) = first_word(rest);
-        if let Some(name) = field_in(word) {
-            if piece_like(draft, line, Piece::Field, name, true).is_empty() {
-                let near = piece_like(draft, line, Piece::Field, name, false);
-                return with_right(alloc, name, near);
-            }
-        }
-        rest = behind;
+    let (_, operands) = first_word(without_blanks(text.as_slice()));
+    match unknown_field(draft, line, operands) {
+        Some(name) => with_right(
+            alloc,
+            name,
+            piece_like(draft, line, Piece::Field, name, false),
+        ),
+        None => Ok(Bytes::new(alloc)),
     }
-    Ok(Bytes::new(alloc))
 }
 
 // The first word of a line that is no piece of a unit, and what would be right behind it or in its place.
@@ -252,11 +269,8 @@ fn area_detail(alloc: Global, generation: &Generation, line: &[u8]) -> Result<By
     } else {
         limits.spab
     };
-    let mut detail = Bytes::from_slice(alloc, name)?;
-    detail.push(b' ')?;
-    detail.append(area)?;
-    detail.append(format!(in alloc; " 0..{most}")?.as_bytes())?;
-    Ok(detail)
+    let most = format!(in alloc; "{most}")?;
+    joined(alloc, &[name, b" ", area, b" 0..", most.as_bytes()])
 }
 
 /// What does not fit in a line of units, or that the unit of this program is missing, and what would be right.

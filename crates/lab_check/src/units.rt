@@ -1,4 +1,6 @@
 //! Why units are refused: their first fault, then that of the text mended for it, and so on.
+ghost use Rattle.std.specs.{Prelude.{IfOk}, List.{All}};
+ghost use Rattle.application_types.specs.UnitText.{IsSpellable};
 
 use crate::definition::{MOST_FAULTS, Mended};
 use crate::draft::Draft;
@@ -8,15 +10,14 @@ use crate::unit_details::{fit_detail, unit_detail};
 use application_check::unit_check::{FitFault, fit};
 use application_types::generation::Generation;
 use application_types::unit_types::Unit;
-use application_types::units::Units;
 use kd_base::{Bytes, OutOfMemory, ProgName};
 use std::alloc::Global;
 use unit_read::{UnitFault, read_units};
 
 // Puts a UNIT line in place of this one, with a name that no other has.
 fn rename(alloc: Global, draft: &mut Draft, line: u32) -> Result<(), OutOfMemory> {
-    let text = format!(in alloc; "UNIT $UNIT${line}$")?;
-    draft.replace(alloc, line, text.as_bytes())
+    let name = format!(in alloc; "$UNIT${line}$")?;
+    draft.replace(alloc, line, &[b"UNIT ", name.as_bytes()])
 }
 
 // The name in a FIELD line.
@@ -44,9 +45,9 @@ fn field_of_one(
 ) -> Result<(), OutOfMemory> {
     let text = field_text(alloc, draft.content(line), area)?;
     if draft.content(line) == text.as_slice() {
-        return draft.replace(alloc, line, b"");
+        return draft.replace(alloc, line, &[]);
     }
-    draft.replace(alloc, line, text.as_slice())
+    draft.replace(alloc, line, &[text.as_slice()])
 }
 
 // Mends a line that is no piece, or not one that may be there.
@@ -54,34 +55,68 @@ fn mend_piece(alloc: Global, draft: &mut Draft, line: u32) -> Result<(), OutOfMe
     match kind_of(draft.content(line)) {
         LineKind::Unit(_) => rename(alloc, draft, line),
         LineKind::Field(_) => field_of_one(alloc, draft, line, b" SPAB"),
-        _ => draft.replace(alloc, line, b""),
+        _ => draft.replace(alloc, line, &[]),
+    }
+}
+
+// Mends the text for a fault that it can be mended for.
+fn mend_lines(alloc: Global, draft: &mut Draft, fault: UnitFault) -> Result<(), OutOfMemory> {
+    let line = fault.line();
+    match fault {
+        UnitFault::BadStatement(_) => mend_piece(alloc, draft, line),
+        UnitFault::NoEnd(_) => draft.put_before(alloc, line, &[b"END"]),
+        UnitFault::UnitTwice(_) => rename(alloc, draft, line),
+        _ => draft.replace(alloc, line, &[]),
     }
 }
 
 // Mends the text for a fault; false where it cannot be read on.
 fn mend(alloc: Global, draft: &mut Draft, fault: UnitFault) -> Result<bool, OutOfMemory> {
     match fault {
-        UnitFault::Memory | UnitFault::TooLong(_) => return Ok(false),
-        UnitFault::BadStatement(line) => mend_piece(alloc, draft, line)?,
-        UnitFault::BadField(line) | UnitFault::LabelTwice(line) => {
-            draft.replace(alloc, line, b"")?;
+        UnitFault::Memory | UnitFault::TooLong(_) => Ok(false),
+        fault => {
+            mend_lines(alloc, draft, fault)?;
+            Ok(true)
         }
-        UnitFault::NoEnd(line) => draft.put_before(alloc, line, b"END")?,
-        UnitFault::UnitTwice(line) => rename(alloc, draft, line)?,
     }
-    Ok(true)
+}
+
+// The units that a text spells, or why it spells none.
+fn read_draft(alloc: Global, draft: &Draft) -> Result<Vec<Unit>, UnitFault>
+    ensures { IfOk result (λ units. All IsSpellable units.items) }
+{
+    let text = draft.text(alloc)?;
+    read_units(alloc, text.as_slice())
 }
 
 // Why the text spells no units, if it spells none.
 fn read_fault(alloc: Global, draft: &Draft) -> Result<Option<UnitFault>, OutOfMemory> {
-    match read_units(alloc, draft.text(alloc)?.as_slice()) {
+    match read_draft(alloc, draft) {
         Ok(_) => Ok(None),
         Err(UnitFault::Memory) => Err(OutOfMemory),
         Err(fault) => Ok(Some(fault)),
     }
 }
 
-// Tells why the text spells no units, and mends it; the units, or none where it cannot be read on.
+// Tells why the text spells no units, where it is no matter of a line that was put in.
+fn tell(
+    alloc: Global,
+    draft: &Draft,
+    fault: UnitFault,
+    refused: &mut Refusals,
+    details: &mut Details,
+) -> Result<(), OutOfMemory> {
+    let line = fault.line();
+    if draft.is_made(line) {
+        return Ok(());
+    }
+    let number = draft.number_of(line);
+    refused.refuse(TextName::Units, number, fault.name())?;
+    let words = unit_detail(alloc, draft, fault)?;
+    details.add(TextName::Units, number, fault.name(), words)
+}
+
+// Tells why the text spells no units, and mends it; false where it cannot be read on.
 fn read_refusals(
     alloc: Global,
     draft: &mut Draft,
@@ -92,13 +127,7 @@ fn read_refusals(
         let Some(fault) = read_fault(alloc, draft)? else {
             return Ok(true);
         };
-        let line = fault.line();
-        if !draft.is_made(line) {
-            let number = draft.number_of(line);
-            refused.refuse(TextName::Units, number, fault.name())?;
-            let words = unit_detail(alloc, draft, fault)?;
-            details.add(TextName::Units, number, fault.name(), words)?;
-        }
+        tell(alloc, draft, fault, refused, details)?;
         if !mend(alloc, draft, fault)? {
             return Ok(false);
         }
@@ -128,9 +157,25 @@ fn put_unit(
     let Some(name) = program_at(generation, line) else {
         return Ok(false);
     };
-    let text = joined(alloc, &[b"UNIT ", name.as_slice()])?;
-    draft.put_before(alloc, u32::MAX, text.as_slice())?;
-    draft.put_before(alloc, u32::MAX, b"END")?;
+    draft.put_before(alloc, u32::MAX, &[b"UNIT ", name.as_slice()])?;
+    draft.put_before(alloc, u32::MAX, &[b"END"])?;
+    Ok(true)
+}
+
+// Mends a field past its area, where there is an area.
+fn mend_field(
+    alloc: Global,
+    draft: &mut Draft,
+    generation: &Generation,
+    line: u32,
+) -> Result<bool, OutOfMemory> {
+    let limits = generation.max();
+    let area: &[u8] = match (limits.spab, limits.kb) {
+        (0, 0) => return Ok(false),
+        (0, _) => b" KB",
+        _ => b" SPAB",
+    };
+    field_of_one(alloc, draft, line, area)?;
     Ok(true)
 }
 
@@ -142,21 +187,29 @@ fn mend_fit(
     fault: FitFault,
 ) -> Result<bool, OutOfMemory> {
     match fault {
-        FitFault::Memory => return Ok(false),
-        FitFault::NoUnit(line) => return put_unit(alloc, draft, generation, line),
+        FitFault::Memory => Ok(false),
+        FitFault::NoUnit(line) => put_unit(alloc, draft, generation, line),
+        FitFault::FieldPastArea(line) => mend_field(alloc, draft, generation, line),
         FitFault::NoLabel(line) | FitFault::LiteralFollowUp(line) => {
-            draft.replace(alloc, line, b"")?;
-        }
-        FitFault::FieldPastArea(line) => {
-            let limits = generation.max();
-            if limits.spab == 0 && limits.kb == 0 {
-                return Ok(false);
-            }
-            let area: &[u8] = if limits.spab > 0 { b" SPAB" } else { b" KB" };
-            field_of_one(alloc, draft, line, area)?;
+            draft.replace(alloc, line, &[])?;
+            Ok(true)
         }
     }
-    Ok(true)
+}
+
+// Why units do not fit, if they do not.
+fn misfit(
+    alloc: Global,
+    units: Vec<Unit>,
+    generation: &Generation,
+) -> Result<Option<FitFault>, OutOfMemory>
+    requires { All IsSpellable units.items }
+{
+    match fit(alloc, units, generation) {
+        Ok(_) => Ok(None),
+        Err(FitFault::Memory) => Err(OutOfMemory),
+        Err(fault) => Ok(Some(fault)),
+    }
 }
 
 // Why the units that the text spells do not fit, if they do not; a text that spells none has no such fault.
@@ -165,15 +218,10 @@ fn fit_fault(
     draft: &Draft,
     generation: &Generation,
 ) -> Result<Option<FitFault>, OutOfMemory> {
-    let units = match read_units(alloc, draft.text(alloc)?.as_slice()) {
-        Ok(units) => units,
-        Err(UnitFault::Memory) => return Err(OutOfMemory),
-        Err(_) => return Ok(None),
-    };
-    match fit(alloc, units, generation) {
-        Ok(_) => Ok(None),
-        Err(FitFault::Memory) => Err(OutOfMemory),
-        Err(fault) => Ok(Some(fault)),
+    match read_draft(alloc, draft) {
+        Ok(units) => misfit(alloc, units, generation),
+        Err(UnitFault::Memory) => Err(OutOfMemory),
+        Err(_) => Ok(None),
     }
 }
 

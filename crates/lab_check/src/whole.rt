@@ -102,12 +102,10 @@ fn find_in_refused(
 ) -> Result<(), OutOfMemory> {
     let mended = definition_refusals(alloc, texts.definition, refused, details)?;
     units_refusals(alloc, texts.units, &mended, refused, details)?;
-    let Some(mended) = &mended else {
-        return Ok(());
-    };
-    let mut later = later_refusals(alloc, &mended.generation, texts.script, details)?;
-    refused.items.append(&mut later.items)?;
-    Ok(())
+    match &mended {
+        Some(mended) => script_refusals(alloc, &mended.generation, texts.script, refused, details),
+        None => Ok(()),
+    }
 }
 
 // The text that a fault counts its line in.
@@ -171,12 +169,8 @@ fn verdict_of(alloc: Global, definition: &[u8], units: &[u8]) -> Result<Verdict,
 {
     match read_application(alloc, definition, units) {
         Ok(application) => Ok(Verdict::Accepted(application)),
-        Err(ApplicationFault::Definition(fault)) => {
-            Ok(Verdict::Refused(ApplicationFault::Definition(fault)))
-        }
-        Err(ApplicationFault::Units(fault)) => Ok(Verdict::Refused(ApplicationFault::Units(fault))),
-        Err(ApplicationFault::Fit(fault)) => Ok(Verdict::Refused(ApplicationFault::Fit(fault))),
         Err(ApplicationFault::Memory) => Err(OutOfMemory),
+        Err(fault) => Ok(Verdict::Refused(fault)),
     }
 }
 

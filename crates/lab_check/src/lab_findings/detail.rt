@@ -2,6 +2,7 @@
 
 use crate::lab_findings::refusal::Refusal;
 use crate::lab_findings::text_name::TextName;
+use crate::parts::joined;
 use kd_base::{Bytes, OutOfMemory, escape};
 use std::alloc::Global;
 
@@ -26,6 +27,15 @@ impl Drop for Detail {
         let _ = line;
         let _ = name;
         let _ = words;
+    }
+}
+
+impl Detail {
+    // Whether it is what is at fault in the line of this refusal.
+    fn is_of(&self, refusal: &Refusal) -> bool {
+        self.text == refusal.text
+            && self.line == refusal.line
+            && self.name.as_bytes() == refusal.name.as_bytes()
     }
 }
 
@@ -64,10 +74,7 @@ impl Details {
     // What is at fault in the line of this refusal; empty where that is not known.
     fn of(&self, refusal: &Refusal) -> &[u8] {
         for detail in &self.items {
-            if detail.text == refusal.text
-                && detail.line == refusal.line
-                && detail.name.as_bytes() == refusal.name.as_bytes()
-            {
+            if detail.is_of(refusal) {
                 return detail.words.as_slice();
             }
         }
@@ -78,11 +85,10 @@ impl Details {
     /// is none from a space to `~` is written as `\x` and two digits; nothing where that is not known.
     pub fn printed(&self, alloc: Global, refusal: &Refusal) -> Result<Bytes, OutOfMemory> {
         let words = self.of(refusal);
-        let mut printed = Bytes::new(alloc);
-        if !words.is_empty() {
-            printed.push(b' ')?;
-            printed.append(escape(alloc, words)?.as_slice())?;
+        if words.is_empty() {
+            return Ok(Bytes::new(alloc));
         }
-        Ok(printed)
+        let escaped = escape(alloc, words)?;
+        joined(alloc, &[b" ", escaped.as_slice()])
     }
 }

@@ -50,29 +50,69 @@ const USER_OPERANDS: &[(&str, &str)] = &[
     ("KSET", NAME),
 ];
 
-const FORMS: [(&str, &str, &[(&str, &str)]); 11] = [
-    ("MAX", "", MAX_OPERANDS),
-    ("PROGRAM", PROGRAM_NAME, &[]),
-    ("TAC", NAME, TAC_OPERANDS),
-    ("USER", NAME, USER_OPERANDS),
-    ("PTERM", NAME, &[("LTERM", NAME)]),
-    ("LTERM", NAME, &[("USAGE", "D,O"), ("KSET", NAME)]),
-    ("TLS", NAME, &[]),
-    ("ULS", NAME, &[]),
-    ("TACCLASS", "1..16", &[("TASKS", "0..240")]),
-    ("KSET", NAME, &[("KEYS", "1..4000,MASTER")]),
-    ("END", "", &[]),
+const FORMS: &[Form] = &[
+    Form {
+        keyword: "MAX",
+        first: "",
+        operands: MAX_OPERANDS,
+    },
+    Form {
+        keyword: "PROGRAM",
+        first: PROGRAM_NAME,
+        operands: &[],
+    },
+    Form {
+        keyword: "TAC",
+        first: NAME,
+        operands: TAC_OPERANDS,
+    },
+    Form {
+        keyword: "USER",
+        first: NAME,
+        operands: USER_OPERANDS,
+    },
+    Form {
+        keyword: "PTERM",
+        first: NAME,
+        operands: &[("LTERM", NAME)],
+    },
+    Form {
+        keyword: "LTERM",
+        first: NAME,
+        operands: &[("USAGE", "D,O"), ("KSET", NAME)],
+    },
+    Form {
+        keyword: "TLS",
+        first: NAME,
+        operands: &[],
+    },
+    Form {
+        keyword: "ULS",
+        first: NAME,
+        operands: &[],
+    },
+    Form {
+        keyword: "TACCLASS",
+        first: "1..16",
+        operands: &[("TASKS", "0..240")],
+    },
+    Form {
+        keyword: "KSET",
+        first: NAME,
+        operands: &[("KEYS", "1..4000,MASTER")],
+    },
+    Form {
+        keyword: "END",
+        first: "",
+        operands: &[],
+    },
 ];
 
 /// The statement of this keyword, if it is kept.
 pub fn form_of(keyword: &[u8]) -> Option<Form> {
-    for (word, first, operands) in &FORMS {
-        if keyword.eq_ignore_ascii_case(word.as_bytes()) {
-            return Some(Form {
-                keyword: *word,
-                first: *first,
-                operands: *operands,
-            });
+    for form in FORMS {
+        if keyword.eq_ignore_ascii_case(form.keyword.as_bytes()) {
+            return Some(*form);
         }
     }
     None

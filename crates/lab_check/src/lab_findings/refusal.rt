@@ -27,11 +27,8 @@ impl Refusal {
     pub fn printed(&self, alloc: Global) -> Result<Vec<u8>, OutOfMemory>
         ensures { IfOk result (λ line. line.items ≡ refusal_line self.now) }
     {
-        let number = format!(in alloc; " {} ", self.line)?;
-        let mut printed = Vec::from_slice(alloc, self.text.word().as_bytes())?;
-        printed.extend_from_slice(number.as_bytes())?;
-        printed.extend_from_slice(self.name.as_bytes())?;
-        Ok(printed)
+        let line = format!(in alloc; "{} {} {}", self.text.word(), self.line, self.name)?;
+        Ok(line.into_bytes())
     }
 }
 
