@@ -200,27 +200,26 @@ impl<'a> Parts<'a> {
         joined(alloc, &[self.keyword, b" ", first, behind])
     }
 
-    // The place of the operand with this key, from 0, and its value.
-    fn keyed(&self, key: &str) -> Option<(usize, &'a [u8])> {
+    /// The value of the operand with this key, without the blanks around it.
+    pub fn value(&self, key: &str) -> Option<&'a [u8]> {
         let mut left = self.operands();
-        for place in 0..=self.operands.len() {
-            let operand = left.next()?;
-            if let Some(value) = behind_key(operand, key) {
-                return Some((place, value));
+        for _ in 0..=self.operands.len() {
+            let value = behind_key(left.next()?, key);
+            if value.is_some() {
+                return value;
             }
         }
         None
     }
 
-    /// The value of the operand with this key, without the blanks around it.
-    pub fn value(&self, key: &str) -> Option<&'a [u8]> {
-        let (_, value) = self.keyed(key)?;
-        Some(value)
-    }
-
     /// The place of the operand with this key, from 0.
     pub fn place(&self, key: &str) -> Option<usize> {
-        let (place, _) = self.keyed(key)?;
-        Some(place)
+        let mut left = self.operands();
+        for place in 0..=self.operands.len() {
+            if behind_key(left.next()?, key).is_some() {
+                return Some(place);
+            }
+        }
+        None
     }
 }
