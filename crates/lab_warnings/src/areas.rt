@@ -1,5 +1,6 @@
 //! The areas that statements ask for.
 
+use crate::warned::joined;
 use application_types::unit_types::{Action, HeaderName, Operand, Unit};
 use kd_base::{Bytes, OutOfMemory, trim_end};
 use std::alloc::Global;
@@ -171,19 +172,19 @@ pub(crate) fn written(alloc: Global, operand: &Operand) -> Result<Bytes, OutOfMe
         Operand::Header(HeaderName::Crccc) => (b"KCRCCC", b"", b""),
         Operand::Header(HeaderName::Rlm) => (b"KCRLM", b"", b""),
     };
-    let mut text = Bytes::from_slice(alloc, front)?;
-    text.append(word)?;
-    text.append(end)?;
-    Ok(text)
+    joined(alloc, &[front, word, end])
+}
+
+// The word of a kind, and a name.
+fn named<'a>(alloc: Global, kind: &'a str, name: &'a [u8]) -> Result<Bytes, OutOfMemory> {
+    joined(alloc, &[kind.as_bytes(), b" ", name])
 }
 
 /// How an area is printed: the word of its kind, and its name as it is written.
 pub(crate) fn area_words(alloc: Global, used: Use) -> Result<Bytes, OutOfMemory> {
-    let mut words = Bytes::from_slice(alloc, used.kind.word().as_bytes())?;
-    words.push(b' ')?;
-    match fixed(used.name) {
-        Some(name) => words.append(name)?,
-        None => words.append(written(alloc, used.name)?.as_slice())?,
+    if let Some(name) = fixed(used.name) {
+        return named(alloc, used.kind.word(), name);
     }
-    Ok(words)
+    let name = written(alloc, used.name)?;
+    named(alloc, used.kind.word(), name.as_slice())
 }

@@ -2,7 +2,7 @@
 
 use crate::areas::{field_of, fixed, is_stored, stored, written};
 use crate::flow::{Fact, Question, Walk, Ways};
-use crate::warned::Warnings;
+use crate::warned::{Warnings, joined};
 use crate::warning::Warning;
 use application_types::unit_types::{Action, HeaderName, Operand, Relation, Unit};
 use kd_base::{Bytes, OutOfMemory};
@@ -93,6 +93,15 @@ fn sizes_at(
     Ok(sizes)
 }
 
+fn is_code(bytes: &[u8]) -> bool {
+    for code in CODES {
+        if *code == bytes {
+            return true;
+        }
+    }
+    false
+}
+
 // The bytes that are compared with a code and are none that a call has.
 fn no_code<'a>(a: &'a Operand, b: &'a Operand) -> Option<&'a [u8]> {
     let bytes = match (a, b) {
@@ -100,12 +109,14 @@ fn no_code<'a>(a: &'a Operand, b: &'a Operand) -> Option<&'a [u8]> {
         (other, Operand::Header(HeaderName::Crccc)) => fixed(other)?,
         _ => return None,
     };
-    for code in CODES {
-        if *code == bytes {
-            return None;
-        }
-    }
-    Some(bytes)
+    if is_code(bytes) { None } else { Some(bytes) }
+}
+
+// How an operand is written, and its length.
+fn sized(alloc: Global, operand: &Operand, size: u32) -> Result<Bytes, OutOfMemory> {
+    let word = written(alloc, operand)?;
+    let number = format!(in alloc; " {size}")?;
+    joined(alloc, &[word.as_slice(), number.as_bytes()])
 }
 
 // Warns of two operands whose lengths can never be equal.
@@ -128,17 +139,15 @@ fn length_warning(
     } else {
         (x.least, y.most)
     };
-    let mut details = written(alloc, a)?;
-    details.append(format!(in alloc; " {x_size} ")?.as_bytes())?;
-    details.append(written(alloc, b)?.as_slice())?;
-    let number = format!(in alloc; "{y_size}")?;
+    let first = sized(alloc, a, x_size)?;
+    let second = sized(alloc, b, y_size)?;
     warned.warn(
         alloc,
         TextName::Units,
         line,
         Warning::NeverEqual,
-        details.as_slice(),
-        number.as_bytes(),
+        first.as_slice(),
+        second.as_slice(),
     )
 }
 

@@ -80,8 +80,8 @@ pub(crate) struct Walk {
 impl Drop for Walk {
     fn drop(self) {
         let Walk { seen, visits } = self;
-        let _ = seen;
-        let _ = visits;
+        drop(seen);
+        drop(visits);
     }
 }
 
@@ -152,6 +152,12 @@ impl Walk {
         for start in starts {
             walk.add(Some(*start), fact, 0)?;
         }
+        walk.follow_all(unit, question)?;
+        Ok(walk)
+    }
+
+    // Adds all that runs come to from the places that are there.
+    fn follow_all<Q: Question>(&mut self, unit: &Unit, question: &Q) -> Result<(), OutOfMemory> {
         // Each place is added once with each fact.
         let most = unit
             .statements()
@@ -159,12 +165,12 @@ impl Walk {
             .saturating_add(1)
             .saturating_mul(FACTS);
         for turn in 0..most {
-            let Some(visit) = walk.visits.get(turn).copied() else {
+            let Some(visit) = self.visits.get(turn).copied() else {
                 break;
             };
-            walk.follow(unit, question, visit)?;
+            self.follow(unit, question, visit)?;
         }
-        Ok(walk)
+        Ok(())
     }
 
     /// Whether some run comes to this place with one of these facts.

@@ -35,11 +35,11 @@ impl Drop for Used {
             codes,
             has_master,
         } = self;
-        let _ = lterms;
-        let _ = programs;
-        let _ = ksets;
-        let _ = classes;
-        let _ = codes;
+        drop(lterms);
+        drop(programs);
+        drop(ksets);
+        drop(classes);
+        drop(codes);
         let _ = has_master;
     }
 }
@@ -84,36 +84,47 @@ impl Used {
         Ok(())
     }
 
-    // Adds what a statement names.
-    fn add(&mut self, said: &Said) -> Result<(), OutOfMemory> {
-        match said {
-            Said::Pterm(_, entry) => {
-                self.lterms.insert(entry.lterm)?;
-            }
-            Said::Tac(_, entry) => {
-                self.programs.insert(entry.program)?;
-                self.classes.insert(entry.class)?;
-            }
-            Said::User(_, entry) => self.add_kset(&entry.kset)?,
-            Said::Lterm(_, entry) => self.add_kset(&entry.kset)?,
-            Said::Kset(_, set) => self.add_keys(set)?,
-            _ => {}
-        }
+    fn add_lterm(&mut self, name: Name) -> Result<(), OutOfMemory> {
+        self.lterms.insert(name)?;
         Ok(())
     }
 
-    fn of(alloc: Global, said: &[Statement]) -> Result<Used, OutOfMemory> {
-        let mut used = Used::none(alloc);
-        for statement in said {
-            used.add(&statement.said)?;
+    fn add_tac(&mut self, entry: &TacEntry) -> Result<(), OutOfMemory> {
+        self.programs.insert(entry.program)?;
+        self.classes.insert(entry.class)?;
+        Ok(())
+    }
+
+    // Adds what a statement names.
+    fn add(&mut self, said: &Said) -> Result<(), OutOfMemory> {
+        match said {
+            Said::Pterm(_, entry) => self.add_lterm(entry.lterm),
+            Said::Tac(_, entry) => self.add_tac(entry),
+            Said::User(_, entry) => self.add_kset(&entry.kset),
+            Said::Lterm(_, entry) => self.add_kset(&entry.kset),
+            Said::Kset(_, set) => self.add_keys(set),
+            _ => Ok(()),
         }
-        Ok(used)
+    }
+
+    // Adds what statements name.
+    fn add_all(&mut self, said: &[Statement]) -> Result<(), OutOfMemory> {
+        for statement in said {
+            self.add(&statement.said)?;
+        }
+        Ok(())
     }
 
     // Whether some key set has the code.
     fn has_code(&self, code: u16) -> bool {
         self.has_master || self.codes.contains(&code)
     }
+}
+
+// The statements of the run of a unit that ends first, if one ends.
+fn shortest_run(alloc: Global, unit: &Unit) -> Result<Option<u32>, OutOfMemory> {
+    let walk = Walk::whole(alloc, unit)?;
+    Ok(walk.shortest(unit))
 }
 
 // Warns of a TAC from whose unit no PEND is reached, or not in its TIME.
@@ -126,7 +137,7 @@ fn run_warnings(
     warned: &mut Warnings,
 ) -> Result<(), OutOfMemory> {
     let text = TextName::Definition;
-    let Some(count) = Walk::whole(alloc, unit)?.shortest(unit) else {
+    let Some(count) = shortest_run(alloc, unit)? else {
         return warned.warn(
             alloc,
             text,
@@ -279,12 +290,22 @@ pub(crate) fn generation_warnings(
     said: &[Statement],
     warned: &mut Warnings,
 ) -> Result<(), OutOfMemory> {
-    let used = Used::of(alloc, said)?;
+    let mut used = Used::none(alloc);
+    used.add_all(said)?;
     let whole = Whole {
         generation,
         units,
         used: &used,
     };
+    all_warnings(alloc, whole, said, warned)
+}
+
+fn all_warnings(
+    alloc: Global,
+    whole: Whole,
+    said: &[Statement],
+    warned: &mut Warnings,
+) -> Result<(), OutOfMemory> {
     for statement in said {
         statement_warnings(alloc, whole, statement, warned)?;
     }

@@ -1,6 +1,6 @@
 //! Warnings of operands that are kept nowhere.
 
-use crate::warned::Warnings;
+use crate::warned::{Warnings, joined};
 use crate::warning::Warning;
 use kd_base::{Bytes, OutOfMemory};
 use lab_check::lab_findings::{Form, TextName, form_of, is_near};
@@ -64,14 +64,12 @@ fn named<'a>(operand: &RawOperand<'a>) -> &'a [u8] {
 
 // How an operand with a key is named: with its value, but for a password.
 fn keyed<'a>(alloc: Global, key: &'a [u8], operand: &RawOperand<'a>) -> Result<Bytes, OutOfMemory> {
-    let mut text = Bytes::from_slice(alloc, key)?;
-    if let RawValue::Word(word) = &operand.value {
-        if !is_near(key, b"PASS") {
-            text.push(b'=')?;
-            text.append(word.as_slice())?;
+    match &operand.value {
+        RawValue::Word(word) if !is_near(key, b"PASS") => {
+            joined(alloc, &[key, b"=", word.as_slice()])
         }
+        _ => Bytes::from_slice(alloc, key),
     }
-    Ok(text)
 }
 
 // What is likely wrong with an operand of this key that is not kept, and what would be right.

@@ -51,9 +51,9 @@ struct Areas {
 impl Drop for Areas {
     fn drop(self) {
         let Areas { gssbs, uls, tls } = self;
-        let _ = gssbs;
-        let _ = uls;
-        let _ = tls;
+        drop(gssbs);
+        drop(uls);
+        drop(tls);
     }
 }
 
@@ -112,18 +112,22 @@ impl Areas {
         }
     }
 
-    fn of(alloc: Global, units: &Units) -> Result<Areas, OutOfMemory> {
-        let mut areas = Areas {
+    fn none(alloc: Global) -> Areas {
+        Areas {
             gssbs: Written::nothing(alloc),
             uls: Written::nothing(alloc),
             tls: Written::nothing(alloc),
-        };
+        }
+    }
+
+    // Adds what the units write.
+    fn add_all(&mut self, units: &Units) -> Result<(), OutOfMemory> {
         for unit in units.all() {
             for statement in unit.statements() {
-                areas.add(unit, &statement.action)?;
+                self.add(unit, &statement.action)?;
             }
         }
-        Ok(areas)
+        Ok(())
     }
 }
 
@@ -165,7 +169,8 @@ fn pages_needed(
     units: &Units,
     said: &[Statement],
 ) -> Result<u64, OutOfMemory> {
-    let areas = Areas::of(alloc, units)?;
+    let mut areas = Areas::none(alloc);
+    areas.add_all(units)?;
     Ok(pages_of(&areas, generation, said))
 }
 

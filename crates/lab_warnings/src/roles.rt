@@ -61,17 +61,21 @@ impl Continued {
         Ok(())
     }
 
-    pub fn of(alloc: Global, units: &Units) -> Result<Continued, OutOfMemory> {
-        let mut continued = Continued {
+    pub fn none(alloc: Global) -> Continued {
+        Continued {
             tacs: BTreeSet::new(alloc),
             is_open: false,
-        };
+        }
+    }
+
+    /// Adds those that the units go on with.
+    pub fn add_all(&mut self, units: &Units) -> Result<(), OutOfMemory> {
         for unit in units.all() {
             for statement in unit.statements() {
-                continued.add(&statement.action)?;
+                self.add(&statement.action)?;
             }
         }
-        Ok(continued)
+        Ok(())
     }
 }
 

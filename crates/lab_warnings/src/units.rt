@@ -45,6 +45,15 @@ fn named_labels(alloc: Global, unit: &Unit) -> Result<Names, OutOfMemory> {
 // Warns of fields that no statement names.
 fn field_warnings(alloc: Global, unit: &Unit, warned: &mut Warnings) -> Result<(), OutOfMemory> {
     let names = named_fields(alloc, unit)?;
+    unnamed_fields(alloc, unit, &names, warned)
+}
+
+fn unnamed_fields(
+    alloc: Global,
+    unit: &Unit,
+    names: &Names,
+    warned: &mut Warnings,
+) -> Result<(), OutOfMemory> {
     for field in unit.fields() {
         if !names.contains(&field.name) {
             warned.warn(
@@ -68,6 +77,16 @@ fn label_warnings(
     warned: &mut Warnings,
 ) -> Result<(), OutOfMemory> {
     let names = named_labels(alloc, unit)?;
+    unnamed_labels(alloc, unit, labels, &names, warned)
+}
+
+fn unnamed_labels(
+    alloc: Global,
+    unit: &Unit,
+    labels: &[Label],
+    names: &Names,
+    warned: &mut Warnings,
+) -> Result<(), OutOfMemory> {
     for label in labels {
         if label.unit == *unit.name() && !names.contains(&label.name) {
             warned.warn(
@@ -231,6 +250,22 @@ fn reached_warnings(
     Ok(())
 }
 
+// Warns of where these runs of a unit go, and what they do there.
+fn walk_warnings(
+    alloc: Global,
+    generation: &Generation,
+    unit: &Unit,
+    role: Role,
+    walk: &Walk,
+    warned: &mut Warnings,
+) -> Result<(), OutOfMemory> {
+    reach_warnings(alloc, unit, walk, warned)?;
+    held_warnings(alloc, generation, unit, walk, warned)?;
+    reached_warnings(alloc, generation, unit, role, walk, warned)?;
+    message_warnings(alloc, unit, role, warned)?;
+    unlock_warnings(alloc, unit, role, warned)
+}
+
 // Warns of where runs of a unit go, and what they do there.
 fn flow_warnings(
     alloc: Global,
@@ -240,11 +275,7 @@ fn flow_warnings(
     warned: &mut Warnings,
 ) -> Result<(), OutOfMemory> {
     let walk = Walk::whole(alloc, unit)?;
-    reach_warnings(alloc, unit, &walk, warned)?;
-    held_warnings(alloc, generation, unit, &walk, warned)?;
-    reached_warnings(alloc, generation, unit, role, &walk, warned)?;
-    message_warnings(alloc, unit, role, warned)?;
-    unlock_warnings(alloc, unit, role, warned)
+    walk_warnings(alloc, generation, unit, role, &walk, warned)
 }
 
 fn warnings_of(
@@ -282,7 +313,8 @@ pub(crate) fn unit_warnings(
     warned: &mut Warnings,
 ) -> Result<(), OutOfMemory> {
     let labels = labels_of(alloc, text)?;
-    let continued = Continued::of(alloc, units)?;
+    let mut continued = Continued::none(alloc);
+    continued.add_all(units)?;
     for unit in units.all() {
         let role = role_of(generation, &continued, unit);
         warnings_of(alloc, generation, unit, role, said, &labels, warned)?;

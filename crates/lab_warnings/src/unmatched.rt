@@ -5,7 +5,7 @@ use crate::targets::{Names, undeclared};
 use crate::warned::Warnings;
 use crate::warning::Warning;
 use application_types::generation::Generation;
-use application_types::unit_types::Action;
+use application_types::unit_types::{Action, Unit};
 use application_types::units::Units;
 use kd_base::{Bytes, OutOfMemory};
 use lab_check::lab_findings::TextName;
@@ -27,9 +27,9 @@ impl Drop for Areas {
             written,
             told,
         } = self;
-        let _ = read;
-        let _ = written;
-        let _ = told;
+        drop(read);
+        drop(written);
+        drop(told);
     }
 }
 
@@ -39,6 +39,12 @@ fn key_of(alloc: Global, used: Use) -> Result<Bytes, OutOfMemory> {
         Some(_) => area_words(alloc, used),
         None => Bytes::from_slice(alloc, used.kind.word().as_bytes()),
     }
+}
+
+// Whether the area is one of these, or some name of its kind is said by no text.
+fn has_area(alloc: Global, areas: &Names, used: Use, words: &Bytes) -> Result<bool, OutOfMemory> {
+    let kind = Bytes::from_slice(alloc, used.kind.word().as_bytes())?;
+    Ok(areas.contains(words) || areas.contains(&kind))
 }
 
 impl Areas {
@@ -56,18 +62,22 @@ impl Areas {
         Ok(())
     }
 
-    fn of(alloc: Global, units: &Units) -> Result<Areas, OutOfMemory> {
-        let mut areas = Areas {
+    fn none(alloc: Global) -> Areas {
+        Areas {
             read: BTreeSet::new(alloc),
             written: BTreeSet::new(alloc),
             told: BTreeSet::new(alloc),
-        };
+        }
+    }
+
+    // Adds the areas that units read or write.
+    fn add_all(&mut self, alloc: Global, units: &Units) -> Result<(), OutOfMemory> {
         for unit in units.all() {
             for statement in unit.statements() {
-                areas.add(alloc, &statement.action)?;
+                self.add(alloc, &statement.action)?;
             }
         }
-        Ok(areas)
+        Ok(())
     }
 
     // What to warn of at a use: a write of what is never read, or a read of what is never written.
@@ -82,8 +92,7 @@ impl Areas {
             Doing::Writes => (&self.read, Warning::NeverRead),
             Doing::Deletes | Doing::Frees => return Ok(None),
         };
-        let kind = Bytes::from_slice(alloc, used.kind.word().as_bytes())?;
-        if others.contains(words) || others.contains(&kind) {
+        if has_area(alloc, others, used, words)? {
             return Ok(None);
         }
         Ok(Some(warning))
@@ -104,14 +113,42 @@ impl Areas {
             return Ok(());
         }
         let words = area_words(alloc, used)?;
-        let Some(warning) = self.warning_of(alloc, used, &words)? else {
-            return Ok(());
-        };
-        if self.told.contains(&words) {
-            return Ok(());
+        match self.warning_of(alloc, used, &words)? {
+            Some(warning) if !self.told.contains(&words) => {
+                warned.warn(alloc, TextName::Units, line, warning, words.as_slice(), b"")?;
+                self.told.insert(words)?;
+                Ok(())
+            }
+            _ => Ok(()),
         }
-        warned.warn(alloc, TextName::Units, line, warning, words.as_slice(), b"")?;
-        self.told.insert(words)?;
+    }
+
+    // Warns of the areas of a unit's statements, but for blocks that are not declared.
+    fn warn_of(
+        &mut self,
+        alloc: Global,
+        generation: &Generation,
+        unit: &Unit,
+        warned: &mut Warnings,
+    ) -> Result<(), OutOfMemory> {
+        for statement in unit.statements() {
+            if undeclared(generation, &statement.action).is_none() {
+                self.warn(alloc, statement.line, &statement.action, warned)?;
+            }
+        }
+        Ok(())
+    }
+
+    fn warn_of_all(
+        &mut self,
+        alloc: Global,
+        generation: &Generation,
+        units: &Units,
+        warned: &mut Warnings,
+    ) -> Result<(), OutOfMemory> {
+        for unit in units.all() {
+            self.warn_of(alloc, generation, unit, warned)?;
+        }
         Ok(())
     }
 }
@@ -123,13 +160,7 @@ pub(crate) fn unmatched_warnings(
     units: &Units,
     warned: &mut Warnings,
 ) -> Result<(), OutOfMemory> {
-    let mut areas = Areas::of(alloc, units)?;
-    for unit in units.all() {
-        for statement in unit.statements() {
-            if undeclared(generation, &statement.action).is_none() {
-                areas.warn(alloc, statement.line, &statement.action, warned)?;
-            }
-        }
-    }
-    Ok(())
+    let mut areas = Areas::none(alloc);
+    areas.add_all(alloc, units)?;
+    areas.warn_of_all(alloc, generation, units, warned)
 }

@@ -31,6 +31,15 @@ impl Drop for Warned {
     }
 }
 
+/// These pieces one behind another.
+pub(crate) fn joined(alloc: Global, pieces: &[&[u8]]) -> Result<Bytes, OutOfMemory> {
+    let mut all = Bytes::new(alloc);
+    for piece in pieces {
+        all.append(piece)?;
+    }
+    Ok(all)
+}
+
 /// The warnings so far.
 #[derive(Drop)]
 pub(crate) struct Warnings {
@@ -43,12 +52,13 @@ impl Warned {
     pub fn printed(&self, alloc: Global) -> Result<Vec<u8>, OutOfMemory> {
         let text = self.text.word();
         let name = self.warning.name();
-        let front = format!(in alloc; "WARN {text} {} {name}", self.line)?;
-        let mut printed = front.into_bytes();
-        if !self.details.is_empty() {
-            printed.extend_from_slice(b" ")?;
-            printed.extend_from_slice(escape(alloc, self.details.as_slice())?.as_slice())?;
-        }
+        let space = if self.details.is_empty() { "" } else { " " };
+        let mut printed = format!(in alloc;
+            "WARN {text} {} {name}{space}",
+            self.line
+        )?.into_bytes();
+        let details = escape(alloc, self.details.as_slice())?;
+        printed.extend_from_slice(details.as_slice())?;
         Ok(printed)
     }
 }
@@ -70,18 +80,18 @@ impl Warnings {
         first: &[u8],
         second: &[u8],
     ) -> Result<(), OutOfMemory> {
-        let mut details = Bytes::from_slice(alloc, first)?;
-        if !first.is_empty() && !second.is_empty() {
-            details.push(b' ')?;
-        }
-        details.append(second)?;
-        self.items.push(Warned {
+        let space: &[u8] = if first.is_empty() || second.is_empty() {
+            b""
+        } else {
+            b" "
+        };
+        let warned = Warned {
             text,
             line,
             warning,
-            details,
-        })?;
-        Ok(())
+            details: joined(alloc, &[first, space, second])?,
+        };
+        Ok(self.items.push(warned)?)
     }
 
     /// Adds a warning of a statement of a unit that is so on these ways: none where it is so on no way, and behind its

@@ -48,16 +48,25 @@ fn application_warnings(
     unit_warnings(alloc, generation, said, all, units, warned)
 }
 
+// Warns of a definition that generates this, where the units are refused.
+fn accepted_warnings(
+    alloc: Global,
+    text: &[u8],
+    generation: &Generation,
+    warned: &mut Warnings,
+) -> Result<(), OutOfMemory> {
+    match statements_of(alloc, text)? {
+        Some(definition) => definition_warnings(alloc, &definition, generation, None, warned),
+        None => Ok(()),
+    }
+}
+
 // Warns of a definition that is accepted, where the units are refused.
 fn lone_warnings(alloc: Global, text: &[u8], warned: &mut Warnings) -> Result<(), OutOfMemory> {
-    let generation = match generate(alloc, text) {
-        Ok(generation) => generation,
-        Err(DefinitionFault::Memory) => return Err(OutOfMemory),
-        Err(_) => return Ok(()),
-    };
-    match statements_of(alloc, text)? {
-        Some(definition) => definition_warnings(alloc, &definition, &generation, None, warned),
-        None => Ok(()),
+    match generate(alloc, text) {
+        Ok(generation) => accepted_warnings(alloc, text, &generation, warned),
+        Err(DefinitionFault::Memory) => Err(OutOfMemory),
+        Err(_) => Ok(()),
     }
 }
 
