@@ -52,15 +52,15 @@ impl Drop for GenerationParts {
             double,
         } = self;
         let _ = limits;
-        let _ = programs;
-        let _ = tacs;
-        let _ = users;
-        let _ = pterms;
-        let _ = lterms;
-        let _ = tls;
-        let _ = uls;
-        let _ = classes;
-        let _ = ksets;
+        drop(programs);
+        drop(tacs);
+        drop(users);
+        drop(pterms);
+        drop(lterms);
+        drop(tls);
+        drop(uls);
+        drop(classes);
+        drop(ksets);
         let _ = counts;
         let _ = double;
     }
