@@ -1,5 +1,5 @@
 //! The operands of a statement, by how many there are and of what kind.
-ghost use Rattle.std.specs.{Prelude.{◌≡◌, IfOk}, Option.{option_map}};
+ghost use Rattle.std.specs.{Prelude.{◌≡◌, IfOk, IsOkAnd}, Option.{option_map}};
 ghost use Rattle.unit_read.specs.{Operands.{mode_of, operand_of}, Shapes.{both, one_name, one_operand, name_and_operand, operand_and_name, two_operands, name_and_two, compared, moment_of, delayed}};
 
 use crate::operand::{mode_of, name_of, operand_of, relation_of};
@@ -12,31 +12,31 @@ use std::alloc::Global;
 pub(crate) type Found<T> = Result<Option<T>, OutOfMemory>;
 
 // Two things, where both were found.
-fn both<A: Drop, B: Drop>(first: Option<A>, second: Option<B>) -> Option<(A, B)>
-    ensures { result ≡ both first second }
+fn both<A: Drop, B: Drop>(first: Found<A>, second: Found<B>) -> Found<(A, B)>
+    ensures { IfOk result (λ found. IsOkAnd first (λ a. IsOkAnd second (λ b. found ≡ both a b))) }
 {
-    match (first, second) {
-        (Some(first), Some(second)) => Some((first, second)),
-        _ => None,
+    match (first?, second?) {
+        (Some(first), Some(second)) => Ok(Some((first, second))),
+        _ => Ok(None),
     }
 }
 
 // The same things side by side.
-fn three<A: Drop, B: Drop, C: Drop>(found: Option<(A, (B, C))>) -> Option<(A, B, C)>
-    ensures { result ≡ option_map (λ p. (p.0, p.1.0, p.1.1)) found }
+fn three<A: Drop, B: Drop, C: Drop>(found: Found<(A, (B, C))>) -> Found<(A, B, C)>
+    ensures { IfOk result (λ three. IsOkAnd found (λ f. three ≡ option_map (λ p. (p.0, p.1.0, p.1.1)) f)) }
 {
-    match found {
-        Some((a, (b, c))) => Some((a, b, c)),
-        None => None,
+    match found? {
+        Some((a, (b, c))) => Ok(Some((a, b, c))),
+        None => Ok(None),
     }
 }
 
-fn four<A: Drop, B: Drop, C: Drop, D: Drop>(found: Option<(A, (B, (C, D)))>) -> Option<(A, B, C, D)>
-    ensures { result ≡ option_map (λ p. (p.0, p.1.0, p.1.1.0, p.1.1.1)) found }
+fn four<A: Drop, B: Drop, C: Drop, D: Drop>(found: Found<(A, (B, (C, D)))>) -> Found<(A, B, C, D)>
+    ensures { IfOk result (λ four. IsOkAnd found (λ f. four ≡ option_map (λ p. (p.0, p.1.0, p.1.1.0, p.1.1.1)) f)) }
 {
-    match found {
-        Some((a, (b, (c, d)))) => Some((a, b, c, d)),
-        None => None,
+    match found? {
+        Some((a, (b, (c, d)))) => Ok(Some((a, b, c, d))),
+        None => Ok(None),
     }
 }
 
@@ -62,7 +62,7 @@ pub(crate) fn two_operands(alloc: Global, words: &[Word]) -> Found<(Operand, Ope
     ensures { IfOk result (λ found. found ≡ two_operands words.now) }
 {
     match words {
-        [first, second] => Ok(both(operand_of(alloc, first)?, operand_of(alloc, second)?)),
+        [first, second] => both(operand_of(alloc, first), operand_of(alloc, second)),
         _ => Ok(None),
     }
 }
@@ -71,7 +71,7 @@ pub(crate) fn name_and_operand(alloc: Global, words: &[Word]) -> Found<(Bytes, O
     ensures { IfOk result (λ found. found ≡ name_and_operand words.now) }
 {
     match words {
-        [name, operand] => Ok(both(name_of(name)?, operand_of(alloc, operand)?)),
+        [name, operand] => both(name_of(name), operand_of(alloc, operand)),
         _ => Ok(None),
     }
 }
@@ -80,7 +80,7 @@ pub(crate) fn operand_and_name(alloc: Global, words: &[Word]) -> Found<(Operand,
     ensures { IfOk result (λ found. found ≡ operand_and_name words.now) }
 {
     match words {
-        [operand, name] => Ok(both(operand_of(alloc, operand)?, name_of(name)?)),
+        [operand, name] => both(operand_of(alloc, operand), name_of(name)),
         _ => Ok(None),
     }
 }
@@ -91,7 +91,7 @@ pub(crate) fn name_and_two(alloc: Global, words: &[Word]) -> Found<(Bytes, Opera
     let [name, rest @ ..] = words else {
         return Ok(None);
     };
-    Ok(three(both(name_of(name)?, two_operands(alloc, rest)?)))
+    three(both(name_of(name), two_operands(alloc, rest)))
 }
 
 // Operand, relation, operand and label.
@@ -101,8 +101,8 @@ pub(crate) fn compared(alloc: Global, words: &[Word]) -> Found<(Operand, Relatio
     let [first, relation, rest @ ..] = words else {
         return Ok(None);
     };
-    let later = both(relation_of(relation), operand_and_name(alloc, rest)?);
-    Ok(four(both(operand_of(alloc, first)?, later)))
+    let later = both(Ok(relation_of(relation)), operand_and_name(alloc, rest));
+    four(both(operand_of(alloc, first), later))
 }
 
 // Hours and minutes, and seconds and message, of a DPUT.
@@ -112,8 +112,8 @@ fn moment_of(alloc: Global, words: &[Word]) -> Found<(Operand, Operand, Operand,
     let [hours, minutes, rest @ ..] = words else {
         return Ok(None);
     };
-    let later = both(operand_of(alloc, minutes)?, two_operands(alloc, rest)?);
-    Ok(four(both(operand_of(alloc, hours)?, later)))
+    let later = both(operand_of(alloc, minutes), two_operands(alloc, rest));
+    four(both(operand_of(alloc, hours), later))
 }
 
 /// What a DPUT says: to, relative or absolute, days, and then hours, minutes, seconds and the message.
@@ -134,28 +134,28 @@ fn behind_to(
 ) -> Found<(Mode, (Operand, (Operand, Operand, Operand, Operand)))>
     ensures { IfOk result (λ found. found ≡ both (mode_of mode.now) (both (operand_of days.now) (moment_of rest.now))) }
 {
-    let days = operand_of(alloc, days)?;
-    Ok(both(mode_of(mode), both(days, moment_of(alloc, rest)?)))
+    let later = both(operand_of(alloc, days), moment_of(alloc, rest));
+    both(Ok(mode_of(mode)), later)
 }
 
 fn message_of(
-    found: Option<
+    found: Found<
         (
             Operand,
             (Mode, (Operand, (Operand, Operand, Operand, Operand))),
         ),
     >,
-) -> Option<DelayedMessage>
-    ensures { result ≡ option_map (λ p. record { to = p.0; mode = p.1.0; days = p.1.1.0; rest = p.1.1.1 }) found }
+) -> Found<DelayedMessage>
+    ensures { IfOk result (λ message. IsOkAnd found (λ f. message ≡ option_map (λ p. record { to = p.0; mode = p.1.0; days = p.1.1.0; rest = p.1.1.1 }) f)) }
 {
-    match found {
-        Some((to, (mode, (days, rest)))) => Some(DelayedMessage {
+    match found? {
+        Some((to, (mode, (days, rest)))) => Ok(Some(DelayedMessage {
             to,
             mode,
             days,
             rest,
-        }),
-        None => None,
+        })),
+        None => Ok(None),
     }
 }
 
@@ -165,6 +165,6 @@ pub(crate) fn delayed(alloc: Global, words: &[Word]) -> Found<DelayedMessage>
     let [to, mode, days, rest @ ..] = words else {
         return Ok(None);
     };
-    let later = behind_to(alloc, mode, days, rest)?;
-    Ok(message_of(both(operand_of(alloc, to)?, later)))
+    let later = behind_to(alloc, mode, days, rest);
+    message_of(both(operand_of(alloc, to), later))
 }
