@@ -1,6 +1,8 @@
 //! The command of a line.
-ghost use Rattle.std.specs.{Prelude.{◌≡◌, ◌<◌, length}, List.{list_all}};
-ghost use Rattle.script_read.specs.{Script.{words, is_passed, begins_with_space}, Commands.{is_text_byte, input, alone, with_one, with_two, line_of_words, command_by, begins_with_in, line_in}};
+ghost use Rattle.std.specs.{Prelude.{◌≡◌, ◌<◌, false, true, length}, List.{list_all}};
+ghost use Rattle.kd_base.specs.Limits.{last_clock};
+ghost use Rattle.abstract_monitor.specs.declared.command.Command.TheVariants.{Tick, Run, Turn, Drop, Print, PrintLast};
+ghost use Rattle.script_read.specs.{Script.{words, is_passed, begins_with_space, as_command, numbered}, Commands.{is_text_byte, last_turns, pterm_in, input, alone, with_one, with_two, with_words, line_of_words, command_by, begins_with_in, line_in}};
 ghost use Rattle.script_read.specs.Reading.{line_result, found_of, Gives};
 
 use crate::fault::ScriptFault;
@@ -51,6 +53,46 @@ fn alone(line: u32, keyword: Keyword) -> Result<Command, ScriptFault>
     }
 }
 
+fn tick(line: u32, word: &[u8]) -> Result<Command, ScriptFault>
+    requires { 0 < length word.now }
+    ensures { found_of result ≡ line_result line (as_command Tick (numbered 0 last_clock word.now)) }
+{
+    Ok(Command::Tick(number_of(line, 0, LAST_CLOCK, word)?))
+}
+
+fn run(line: u32, word: &[u8]) -> Result<Command, ScriptFault>
+    requires { 0 < length word.now }
+    ensures { found_of result ≡ line_result line (as_command Run (numbered 0 last_turns word.now)) }
+{
+    Ok(Command::Run(number_of(line, 0, LAST_TURNS, word)?))
+}
+
+fn turn(generation: &Generation, line: u32, word: &[u8]) -> Result<Command, ScriptFault>
+    requires { 0 < length word.now }
+    ensures { found_of result ≡ line_result line (as_command Turn (numbered 1 generation.now.limits.tasks word.now)) }
+{
+    let tasks = u64::from(generation.max().tasks);
+    Ok(Command::Turn(number_of(line, 1, tasks, word)? as u16))
+}
+
+fn drop_at(generation: &Generation, line: u32, word: &[u8]) -> Result<Command, ScriptFault>
+    ensures { found_of result ≡ line_result line (as_command Drop (pterm_in generation.now false word.now)) }
+{
+    Ok(Command::Drop(pterm_of(generation, line, false, word)?))
+}
+
+fn print_at(generation: &Generation, line: u32, word: &[u8]) -> Result<Command, ScriptFault>
+    ensures { found_of result ≡ line_result line (as_command Print (pterm_in generation.now true word.now)) }
+{
+    Ok(Command::Print(pterm_of(generation, line, true, word)?))
+}
+
+fn print_last(generation: &Generation, line: u32, word: &[u8]) -> Result<Command, ScriptFault>
+    ensures { found_of result ≡ line_result line (as_command PrintLast (pterm_in generation.now true word.now)) }
+{
+    Ok(Command::PrintLast(pterm_of(generation, line, true, word)?))
+}
+
 // A keyword and a word.
 fn with_one(
     generation: &Generation,
@@ -61,13 +103,12 @@ fn with_one(
     requires { 0 < length word.now }
     ensures { found_of result ≡ line_result line (with_one generation.now keyword word.now) }
 {
-    let tasks = generation.max().tasks;
     match keyword {
-        Keyword::Tick => Ok(Command::Tick(number_of(line, 0, LAST_CLOCK, word)?)),
-        Keyword::Run => Ok(Command::Run(number_of(line, 0, LAST_TURNS, word)?)),
-        Keyword::Turn => Ok(Command::Turn(number_of(line, 1, u64::from(tasks), word)? as u16)),
-        Keyword::Drop => Ok(Command::Drop(pterm_of(generation, line, false, word)?)),
-        Keyword::Print => Ok(Command::Print(pterm_of(generation, line, true, word)?)),
+        Keyword::Tick => tick(line, word),
+        Keyword::Run => run(line, word),
+        Keyword::Turn => turn(generation, line, word),
+        Keyword::Drop => drop_at(generation, line, word),
+        Keyword::Print => print_at(generation, line, word),
         Keyword::Restart => Err(ScriptFault::BadLine(line)),
     }
 }
@@ -83,11 +124,30 @@ fn with_two(
     ensures { found_of result ≡ line_result line (with_two generation.now keyword word.now last.now) }
 {
     match keyword {
-        Keyword::Print if same(last, b"LAST") => {
-            Ok(Command::PrintLast(pterm_of(generation, line, true, word)?))
-        }
+        Keyword::Print if same(last, b"LAST") => print_last(generation, line, word),
         _ => Err(ScriptFault::BadLine(line)),
     }
+}
+
+// What a keyword and what follows it say.
+fn with_keyword(
+    generation: &Generation,
+    number: u32,
+    keyword: Keyword,
+    operands: &[u8],
+) -> Result<Command, ScriptFault>
+    ensures { found_of result ≡ line_result number (with_words generation.now keyword (words operands.now)) }
+{
+    let Some((word, rest)) = next_word(operands) else {
+        return alone(number, keyword);
+    };
+    let Some((last, rest)) = next_word(rest) else {
+        return with_one(generation, number, keyword, word);
+    };
+    if next_word(rest).is_some() {
+        return Err(ScriptFault::BadLine(number));
+    }
+    with_two(generation, number, keyword, word, last)
 }
 
 // What the words of this line say.
@@ -104,16 +164,7 @@ fn command_of_words(
     let Some(keyword) = keyword_of(first) else {
         return Err(ScriptFault::BadLine(number));
     };
-    let Some((word, rest)) = next_word(rest) else {
-        return alone(number, keyword);
-    };
-    let Some((last, rest)) = next_word(rest) else {
-        return with_one(generation, number, keyword, word);
-    };
-    if next_word(rest).is_some() {
-        return Err(ScriptFault::BadLine(number));
-    }
-    with_two(generation, number, keyword, word, last)
+    with_keyword(generation, number, keyword, rest)
 }
 
 // The command of a line that is not passed over and begins with no space.

@@ -10,16 +10,35 @@ use thiserror::Error;
 #[derive(Clone, Copy, Error)]
 pub enum ScriptFault {
     /// A line that is no command.
-    #[error("line {0}: no command")]
     BadLine(u32),
     /// A number of digits outside its range.
-    #[error("line {0}: a number outside its range")]
     OutOfRange(u32),
     /// More than 16,777,216 bytes, or more than 1,000,000 lines that are neither empty nor comments.
-    #[error("the script is too long")]
     TooLong,
-    #[error("out of memory")]
     Memory,
+}
+
+impl ScriptFault {
+    // What it says of its line, or of the script.
+    fn message(&self) -> &'static str {
+        match self {
+            ScriptFault::BadLine(_) => "no command",
+            ScriptFault::OutOfRange(_) => "a number outside its range",
+            ScriptFault::TooLong => "the script is too long",
+            ScriptFault::Memory => "out of memory",
+        }
+    }
+}
+
+impl Display for ScriptFault {
+    fn fmt<W: Write>(&self, f: &mut Formatter<W>) -> fmt::Result {
+        match self {
+            ScriptFault::BadLine(line) | ScriptFault::OutOfRange(line) => {
+                write!(f, "line {line}: {}", self.message())
+            }
+            ScriptFault::TooLong | ScriptFault::Memory => f.write_str(self.message()),
+        }
+    }
 }
 
 impl Debug for ScriptFault {
