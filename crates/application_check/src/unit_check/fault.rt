@@ -13,23 +13,29 @@ use thiserror::Error;
 #[derive(Clone, Copy, Error)]
 pub enum FitFault {
     /// A PROGRAM statement, on this line of the definition, whose unit is missing.
-    #[error("line {0} of the definition: no unit has this name")]
     NoUnit(u32),
     /// A statement that jumps to a label that its unit has not.
-    #[error("line {0}: no such label")]
     NoLabel(u32),
     /// A field that ends after the last byte of KB or SPAB.
-    #[error("line {0}: a field past the end of its area")]
     FieldPastArea(u32),
     /// A PEND that names by a literal what is no TAC.
-    #[error("line {0}: no TAC has this name")]
     LiteralFollowUp(u32),
     /// Memory ran out, which may be answered in place of anything else.
-    #[error("out of memory")]
     Memory,
 }
 
 impl FitFault {
+    // What it says of its line.
+    fn message(&self) -> &'static str {
+        match self {
+            FitFault::NoUnit(_) => "no unit has this name",
+            FitFault::NoLabel(_) => "no such label",
+            FitFault::FieldPastArea(_) => "a field past the end of its area",
+            FitFault::LiteralFollowUp(_) => "no TAC has this name",
+            FitFault::Memory => "out of memory",
+        }
+    }
+
     // Its line, its number among the faults of one line, and the name by which it is printed.
     pub(crate) fn row(&self) -> (u32, u8, &'static str)
         ensures line { result.0 ≡ line_of self.now }
@@ -57,6 +63,20 @@ impl FitFault {
         ensures { result.now ≡ name_of self.now }
     {
         self.row().2
+    }
+}
+
+impl Display for FitFault {
+    fn fmt<W: Write>(&self, f: &mut Formatter<W>) -> fmt::Result {
+        match self {
+            FitFault::NoUnit(line) => write!(
+                f,
+                "line {line} of the definition: {}",
+                self.message()
+            ),
+            FitFault::Memory => f.write_str(self.message()),
+            _ => write!(f, "line {}: {}", self.line(), self.message()),
+        }
     }
 }
 
