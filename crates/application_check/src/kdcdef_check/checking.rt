@@ -10,7 +10,7 @@ use crate::kdcdef_check::limits::limits_of;
 use crate::kdcdef_check::passes::first_outer_fault;
 use crate::kdcdef_check::tables::Tables;
 use crate::kdcdef_check::whole::Whole;
-use application_types::generation::{Generation, GenerationParts};
+use application_types::generation::Generation;
 use application_types::kdcdef_types::{Counts, Limits, Statement};
 use kd_base::OutOfMemory;
 use std::alloc::Global;
@@ -37,21 +37,7 @@ fn generation_of(
     requires { IsSound (made_of tables limits counts double) }
     ensures { IfOk result (λ generation. generation ≡ made_of tables limits counts double) }
 {
-    let parts = GenerationParts {
-        limits,
-        programs: tables.programs,
-        tacs: tables.tacs,
-        users: tables.users,
-        pterms: tables.pterms,
-        lterms: tables.lterms,
-        tls: tables.tls,
-        uls: tables.uls,
-        classes: tables.classes,
-        ksets: tables.ksets,
-        counts,
-        double,
-    };
-    Generation::of(alloc, parts)
+    Generation::of(alloc, tables.into_parts(limits, counts, double))
 }
 
 /// The generation of the statements that were gathered, or their first fault.

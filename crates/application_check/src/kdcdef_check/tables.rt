@@ -1,18 +1,17 @@
 //! The tables of names, filled from the statements.
 ghost use Rattle.std.specs.Prelude.{◌≡◌, [], OnOk, IfOk};
-ghost use Rattle.application_types.specs.Generation.{Generated};
-ghost use Rattle.application_check.specs.{Faults.{is_taken, shares_lterm, lacks_program, lacks_lterm, lacks_keys, lacks_kset}, Steps.{IsAdded, AreFilled, HaveNames, HaveNamed}};
+ghost use Rattle.application_types.specs.{Generation.{Generated}, Tables.{generated_of}};
+ghost use Rattle.application_check.specs.{Faults.{is_taken, shares_lterm, lacks_program, lacks_lterm, lacks_keys, lacks_kset}, Steps.{IsAdded, AreFilled, HaveNames, HaveNamed, made_of}};
 
-use application_types::generation::NameHashing;
+use application_types::generation::{GenerationParts, NameHashing};
 use application_types::kdcdef_types::{
-    Codes, KeySet, LtermEntry, PtermEntry, Said, Statement, TacEntry, UserEntry,
+    Codes, Counts, KeySet, Limits, LtermEntry, PtermEntry, Said, Statement, TacEntry, UserEntry,
 };
 use indexmap::{IndexMap, IndexSet};
 use kd_base::{Name, OutOfMemory, ProgName};
 use std::alloc::Global;
 
 /// What the statements name, in their order. Of two equal names the first keeps its place.
-#[derive(Drop)]
 pub(crate) struct Tables {
     pub(crate) programs: IndexMap<ProgName, u32, NameHashing>,
     pub(crate) tacs: IndexMap<Name, TacEntry, NameHashing>,
@@ -25,6 +24,33 @@ pub(crate) struct Tables {
     pub(crate) ksets: IndexMap<Name, KeySet, NameHashing>,
     /// The LTERMs that have a PTERM.
     pub(crate) served: IndexSet<Name, NameHashing>,
+}
+
+impl Drop for Tables {
+    fn drop(self) {
+        let Tables {
+            programs,
+            tacs,
+            users,
+            pterms,
+            lterms,
+            tls,
+            uls,
+            classes,
+            ksets,
+            served,
+        } = self;
+        drop(programs);
+        drop(tacs);
+        drop(users);
+        drop(pterms);
+        drop(lterms);
+        drop(tls);
+        drop(uls);
+        drop(classes);
+        drop(ksets);
+        drop(served);
+    }
 }
 
 fn copy_of(entry: &UserEntry) -> Result<UserEntry, OutOfMemory>
@@ -68,6 +94,44 @@ impl Tables {
             classes: IndexMap::with_hasher(alloc, hashing),
             ksets: IndexMap::with_hasher(alloc, hashing),
             served: IndexSet::with_hasher(alloc, hashing),
+        }
+    }
+
+    /// The parts of a generation with these tables, and with these limits, counts and line of DOUBLE.
+    pub(crate) fn into_parts(
+        self,
+        limits: Limits,
+        counts: Counts,
+        double: Option<u32>,
+    ) -> GenerationParts
+        ensures { generated_of result ≡ made_of self limits counts double }
+    {
+        let Tables {
+            programs,
+            tacs,
+            users,
+            pterms,
+            lterms,
+            tls,
+            uls,
+            classes,
+            ksets,
+            served,
+        } = self;
+        drop(served);
+        GenerationParts {
+            limits,
+            programs,
+            tacs,
+            users,
+            pterms,
+            lterms,
+            tls,
+            uls,
+            classes,
+            ksets,
+            counts,
+            double,
         }
     }
 
