@@ -1,6 +1,6 @@
 //! The operands of a statement, read from left to right.
-ghost use Rattle.std.specs.Prelude.{◌≡◌, ◌+◌, ◌<◌, ◌≤◌, ◌^◌, length};
-ghost use Rattle.kdcdef_read.specs.{Operands.{operand_key}, Filling.{after, with_row, with_operand, read_operands}};
+ghost use Rattle.std.specs.Prelude.{◌≡◌, ◌+◌, ◌<◌, ◌≤◌, ◌^◌, true, length};
+ghost use Rattle.kdcdef_read.specs.{Operands.{operand_key}, Filling.{after, with_row, with_operand, with_operands, read_operands}};
 
 use crate::fault::Cause;
 use crate::rows::{Row, row_of};
@@ -68,6 +68,21 @@ fn add_operand(
     Ok(())
 }
 
+// Adds what operands say, of which the first is the first of its statement.
+fn add_operands(keyword: Keyword, given: &mut Given, operands: &Operands) -> Result<(), Cause>
+    requires { given.old.passed + length operands.now < 2 ^ 32 }
+    ensures { after result given.new ≡ with_operands keyword true given.old operands.now }
+{
+    let mut first = true;
+    let mut left = operands.again();
+    while let Some((operand, rest)) = left.next() {
+        add_operand(keyword, first, given, &operand)?;
+        first = false;
+        left = rest;
+    }
+    Ok(())
+}
+
 /// What the operands of a statement say, by the rows of its table.
 pub(crate) fn read_operands(
     keyword: Keyword,
@@ -82,12 +97,6 @@ pub(crate) fn read_operands(
         taken,
         passed: 0,
     };
-    let mut first = true;
-    let mut left = operands.again();
-    while let Some((operand, rest)) = left.next() {
-        add_operand(keyword, first, &mut given, &operand)?;
-        first = false;
-        left = rest;
-    }
+    add_operands(keyword, &mut given, operands)?;
     Ok(given)
 }
