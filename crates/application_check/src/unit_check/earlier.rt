@@ -8,9 +8,8 @@ impl FitFault {
     fn comes_first(&self, other: &FitFault) -> bool
         ensures { result ≡ comes_first self.now other.now }
     {
-        let (line, number, _) = self.row();
-        let (other_line, other_number, _) = other.row();
-        line < other_line || (line == other_line && number <= other_number)
+        let (line, other_line) = (self.line(), other.line());
+        line < other_line || (line == other_line && self.number() <= other.number())
     }
 }
 

@@ -36,33 +36,43 @@ impl FitFault {
         }
     }
 
-    // Its line, its number among the faults of one line, and the name by which it is printed.
-    pub(crate) fn row(&self) -> (u32, u8, &'static str)
-        ensures line { result.0 ≡ line_of self.now }
-        ensures number { result.1 ≡ number_of self.now }
-        ensures name { result.2.now ≡ name_of self.now }
-    {
-        match *self {
-            FitFault::NoUnit(line) => (line, 1, "NoUnit"),
-            FitFault::NoLabel(line) => (line, 2, "NoLabel"),
-            FitFault::FieldPastArea(line) => (line, 3, "FieldPastArea"),
-            FitFault::LiteralFollowUp(line) => (line, 4, "LiteralFollowUp"),
-            FitFault::Memory => (0, 0, "Memory"),
-        }
-    }
-
     /// The number of its line, counted from 1. It takes no memory.
     pub fn line(&self) -> u32
         ensures { result ≡ line_of self.now }
     {
-        self.row().0
+        match self {
+            FitFault::NoUnit(line)
+            | FitFault::NoLabel(line)
+            | FitFault::FieldPastArea(line)
+            | FitFault::LiteralFollowUp(line) => *line,
+            FitFault::Memory => 0,
+        }
+    }
+
+    // Its number among the faults of one line.
+    pub(crate) fn number(&self) -> u8
+        ensures { result ≡ number_of self.now }
+    {
+        match self {
+            FitFault::NoUnit(_) => 1,
+            FitFault::NoLabel(_) => 2,
+            FitFault::FieldPastArea(_) => 3,
+            FitFault::LiteralFollowUp(_) => 4,
+            FitFault::Memory => 0,
+        }
     }
 
     /// The name by which it is printed. It takes no memory.
     pub fn name(&self) -> &'static str
         ensures { result.now ≡ name_of self.now }
     {
-        self.row().2
+        match self {
+            FitFault::NoUnit(_) => "NoUnit",
+            FitFault::NoLabel(_) => "NoLabel",
+            FitFault::FieldPastArea(_) => "FieldPastArea",
+            FitFault::LiteralFollowUp(_) => "LiteralFollowUp",
+            FitFault::Memory => "Memory",
+        }
     }
 }
 
