@@ -35,95 +35,100 @@ fn answer(keyword: Keyword, given: &Given, key: Key) -> Option<Value>
     given.slots[place_of(key)].or(default_of(keyword, key))
 }
 
-fn name_at(value: &Option<Value>) -> Option<Name>
-    ensures { result ≡ name_at value.now }
+fn name_at(keyword: Keyword, given: &Given, key: Key) -> Option<Name>
+    ensures { result ≡ name_at (answer keyword given.now.slots key) }
 {
-    match value {
+    match &answer(keyword, given, key) {
         Some(Value::Name(name)) => Some(*name),
         _ => None,
     }
 }
 
-fn prog_name_at(value: &Option<Value>) -> Option<ProgName>
-    ensures { result ≡ prog_name_at value.now }
+fn prog_name_at(keyword: Keyword, given: &Given, key: Key) -> Option<ProgName>
+    ensures { result ≡ prog_name_at (answer keyword given.now.slots key) }
 {
-    match value {
+    match &answer(keyword, given, key) {
         Some(Value::ProgName(name)) => Some(*name),
         _ => None,
     }
 }
 
-fn number_at(value: Option<Value>) -> Option<u16>
-    ensures { result ≡ number_at value }
+fn number_at(keyword: Keyword, given: &Given, key: Key) -> Option<u16>
+    ensures { result ≡ number_at (answer keyword given.now.slots key) }
 {
-    match value {
+    match answer(keyword, given, key) {
         Some(Value::Number(number)) => Some(number),
         _ => None,
     }
 }
 
 // The same in a wider type.
-fn wide_at(value: Option<Value>) -> Option<u32>
-    ensures { result ≡ number_at value }
+fn wide_at(keyword: Keyword, given: &Given, key: Key) -> Option<u32>
+    ensures { result ≡ number_at (answer keyword given.now.slots key) }
 {
-    Some(u32::from(number_at(value)?))
+    Some(u32::from(number_at(keyword, given, key)?))
 }
 
-fn ticks_at(value: Option<Value>) -> Option<u64>
-    ensures { result ≡ number_at value }
+fn ticks_at(keyword: Keyword, given: &Given, key: Key) -> Option<u64>
+    ensures { result ≡ number_at (answer keyword given.now.slots key) }
 {
-    Some(u64::from(number_at(value)?))
+    Some(u64::from(number_at(keyword, given, key)?))
 }
 
-fn class_at(value: Option<Value>) -> Option<u8>
-    ensures { result ≡ class_at value }
+fn class_at(keyword: Keyword, given: &Given, key: Key) -> Option<u8>
+    ensures { result ≡ class_at (answer keyword given.now.slots key) }
 {
-    match value {
+    match answer(keyword, given, key) {
         Some(Value::Class(class)) => Some(class),
         _ => None,
     }
 }
 
-fn redelivery_at(value: Option<Value>) -> Option<u8>
-    ensures { result ≡ redelivery_at value }
+fn redelivery_at(keyword: Keyword, given: &Given, key: Key) -> Option<u8>
+    ensures { result ≡ redelivery_at (answer keyword given.now.slots key) }
 {
-    match value {
+    match answer(keyword, given, key) {
         Some(Value::Redelivery(times)) => Some(times),
         _ => None,
     }
 }
 
-fn time_at(value: Option<Value>) -> Option<u32>
-    ensures { result ≡ time_at value }
+fn time_at(keyword: Keyword, given: &Given, key: Key) -> Option<u32>
+    ensures { result ≡ time_at (answer keyword given.now.slots key) }
 {
-    match value {
+    match answer(keyword, given, key) {
         Some(Value::Time(time)) => Some(time),
         _ => None,
     }
 }
 
-fn call_at(value: Option<Value>) -> Option<CallUse>
-    ensures { result ≡ call_at value }
+fn call_at(keyword: Keyword, given: &Given, key: Key) -> Option<CallUse>
+    ensures { result ≡ call_at (answer keyword given.now.slots key) }
 {
-    match value {
+    match answer(keyword, given, key) {
         Some(Value::Call(call)) => Some(call),
         _ => None,
     }
 }
 
-fn flag_at(value: Option<Value>) -> Option<bool>
-    ensures { result ≡ flag_at value }
+fn flag_at(keyword: Keyword, given: &Given, key: Key) -> Option<bool>
+    ensures { result ≡ flag_at (answer keyword given.now.slots key) }
 {
-    match value {
+    match answer(keyword, given, key) {
         Some(Value::Flag(flag)) => Some(flag),
         _ => None,
     }
 }
 
-fn password_at(alloc: Global, value: &Option<Value>) -> Result<Option<Bytes>, OutOfMemory>
-    ensures { IfOk result (λ pass. pass ≡ password_at value.now) }
+fn password_at(
+    alloc: Global,
+    keyword: Keyword,
+    given: &Given,
+    key: Key,
+) -> Result<Option<Bytes>, OutOfMemory>
+    ensures { IfOk result (λ pass. pass ≡ password_at (answer keyword given.now.slots key)) }
 {
-    match value {
+    match &answer(keyword, given, key) {
         Some(Value::Password(password)) => {
             Ok(Some(Bytes::from_slice(alloc, password.as_slice())?))
         }
@@ -135,26 +140,26 @@ fn max_said(given: &Given) -> Said
     ensures { result ≡ max_said (answers keywords.Max given.now.slots) }
 {
     Said::Max(MaxOperands {
-        appliname: name_at(&answer(Keyword::Max, given, Key::Appliname)),
-        tasks: number_at(answer(Keyword::Max, given, Key::Tasks)),
-        asyntasks: number_at(answer(Keyword::Max, given, Key::Asyntasks)),
-        gssbs: wide_at(answer(Keyword::Max, given, Key::Gssbs)),
-        lssbs: wide_at(answer(Keyword::Max, given, Key::Lssbs)),
-        kb: wide_at(answer(Keyword::Max, given, Key::Kb)),
-        spab: wide_at(answer(Keyword::Max, given, Key::Spab)),
-        nb: wide_at(answer(Keyword::Max, given, Key::Nb)),
-        pgpool: wide_at(answer(Keyword::Max, given, Key::Pgpool)),
-        reswait: ticks_at(answer(Keyword::Max, given, Key::Reswait)),
-        blksize: wide_at(answer(Keyword::Max, given, Key::Blksize)),
-        redelivery: redelivery_at(answer(Keyword::Max, given, Key::Redelivery)),
-        double: flag_at(answer(Keyword::Max, given, Key::KdcFile)),
+        appliname: name_at(Keyword::Max, given, Key::Appliname),
+        tasks: number_at(Keyword::Max, given, Key::Tasks),
+        asyntasks: number_at(Keyword::Max, given, Key::Asyntasks),
+        gssbs: wide_at(Keyword::Max, given, Key::Gssbs),
+        lssbs: wide_at(Keyword::Max, given, Key::Lssbs),
+        kb: wide_at(Keyword::Max, given, Key::Kb),
+        spab: wide_at(Keyword::Max, given, Key::Spab),
+        nb: wide_at(Keyword::Max, given, Key::Nb),
+        pgpool: wide_at(Keyword::Max, given, Key::Pgpool),
+        reswait: ticks_at(Keyword::Max, given, Key::Reswait),
+        blksize: wide_at(Keyword::Max, given, Key::Blksize),
+        redelivery: redelivery_at(Keyword::Max, given, Key::Redelivery),
+        double: flag_at(Keyword::Max, given, Key::KdcFile),
     })
 }
 
 fn program_said(given: &Given) -> Option<Said>
     ensures { result ≡ program_said (answers keywords.Program given.now.slots) }
 {
-    let name = prog_name_at(&answer(Keyword::Program, given, Key::First))?;
+    let name = prog_name_at(Keyword::Program, given, Key::First)?;
     Some(Said::Program(name))
 }
 
@@ -172,13 +177,13 @@ fn class_of(asynchronous: bool, class: Option<u8>) -> u8
 fn tac_entry(given: &Given) -> Option<TacEntry>
     ensures { result ≡ tac_entry (answers keywords.Tac given.now.slots) }
 {
-    let program = prog_name_at(&answer(Keyword::Tac, given, Key::Program))?;
-    let asynchronous = flag_at(answer(Keyword::Tac, given, Key::Type))?;
-    let call = call_at(answer(Keyword::Tac, given, Key::Call))?;
-    let on = flag_at(answer(Keyword::Tac, given, Key::Status))?;
-    let class = class_at(answer(Keyword::Tac, given, Key::TacClass));
-    let time = time_at(answer(Keyword::Tac, given, Key::Time))?;
-    let lock = number_at(answer(Keyword::Tac, given, Key::Lock));
+    let program = prog_name_at(Keyword::Tac, given, Key::Program)?;
+    let asynchronous = flag_at(Keyword::Tac, given, Key::Type)?;
+    let call = call_at(Keyword::Tac, given, Key::Call)?;
+    let on = flag_at(Keyword::Tac, given, Key::Status)?;
+    let class = class_at(Keyword::Tac, given, Key::TacClass);
+    let time = time_at(Keyword::Tac, given, Key::Time)?;
+    let lock = number_at(Keyword::Tac, given, Key::Lock);
     Some(TacEntry {
         program,
         asynchronous,
@@ -193,7 +198,7 @@ fn tac_entry(given: &Given) -> Option<TacEntry>
 fn tac_said(given: &Given) -> Option<Said>
     ensures { result ≡ tac_said (answers keywords.Tac given.now.slots) }
 {
-    let name = name_at(&answer(Keyword::Tac, given, Key::First))?;
+    let name = name_at(Keyword::Tac, given, Key::First)?;
     let entry = tac_entry(given)?;
     Some(Said::Tac(name, entry))
 }
@@ -201,14 +206,14 @@ fn tac_said(given: &Given) -> Option<Said>
 fn user_said(alloc: Global, given: &Given) -> Result<Option<Said>, OutOfMemory>
     ensures { IfOk result (λ said. said ≡ user_said (answers keywords.User given.now.slots)) }
 {
-    let Some(name) = name_at(&answer(Keyword::User, given, Key::First)) else {
+    let Some(name) = name_at(Keyword::User, given, Key::First) else {
         return Ok(None);
     };
-    let Some(restart) = flag_at(answer(Keyword::User, given, Key::Restart)) else {
+    let Some(restart) = flag_at(Keyword::User, given, Key::Restart) else {
         return Ok(None);
     };
-    let kset = name_at(&answer(Keyword::User, given, Key::Kset));
-    let pass = password_at(alloc, &answer(Keyword::User, given, Key::Pass))?;
+    let kset = name_at(Keyword::User, given, Key::Kset);
+    let pass = password_at(alloc, Keyword::User, given, Key::Pass)?;
     Ok(Some(Said::User(
         name,
         UserEntry {
@@ -223,8 +228,8 @@ fn user_said(alloc: Global, given: &Given) -> Result<Option<Said>, OutOfMemory>
 fn pterm_said(given: &Given) -> Option<Said>
     ensures { result ≡ pterm_said (answers keywords.Pterm given.now.slots) }
 {
-    let name = name_at(&answer(Keyword::Pterm, given, Key::First))?;
-    match name_at(&answer(Keyword::Pterm, given, Key::Lterm)) {
+    let name = name_at(Keyword::Pterm, given, Key::First)?;
+    match name_at(Keyword::Pterm, given, Key::Lterm) {
         Some(lterm) => Some(Said::Pterm(name, PtermEntry { lterm })),
         None => Some(Said::Passed),
     }
@@ -233,38 +238,38 @@ fn pterm_said(given: &Given) -> Option<Said>
 fn lterm_said(given: &Given) -> Option<Said>
     ensures { result ≡ lterm_said (answers keywords.Lterm given.now.slots) }
 {
-    let name = name_at(&answer(Keyword::Lterm, given, Key::First))?;
-    let printer = flag_at(answer(Keyword::Lterm, given, Key::Usage))?;
-    let kset = name_at(&answer(Keyword::Lterm, given, Key::Kset));
+    let name = name_at(Keyword::Lterm, given, Key::First)?;
+    let printer = flag_at(Keyword::Lterm, given, Key::Usage)?;
+    let kset = name_at(Keyword::Lterm, given, Key::Kset);
     Some(Said::Lterm(name, LtermEntry { printer, kset }))
 }
 
 fn tls_said(given: &Given) -> Option<Said>
     ensures { result ≡ tls_said (answers keywords.Tls given.now.slots) }
 {
-    let name = name_at(&answer(Keyword::Tls, given, Key::First))?;
+    let name = name_at(Keyword::Tls, given, Key::First)?;
     Some(Said::Tls(name))
 }
 
 fn uls_said(given: &Given) -> Option<Said>
     ensures { result ≡ uls_said (answers keywords.Uls given.now.slots) }
 {
-    let name = name_at(&answer(Keyword::Uls, given, Key::First))?;
+    let name = name_at(Keyword::Uls, given, Key::First)?;
     Some(Said::Uls(name))
 }
 
 fn class_said(given: &Given) -> Option<Said>
     ensures { result ≡ class_said (answers keywords.TacClass given.now.slots) }
 {
-    let class = class_at(answer(Keyword::TacClass, given, Key::First))?;
-    let tasks = number_at(answer(Keyword::TacClass, given, Key::Tasks))?;
+    let class = class_at(Keyword::TacClass, given, Key::First)?;
+    let tasks = number_at(Keyword::TacClass, given, Key::Tasks)?;
     Some(Said::TacClass(class, tasks))
 }
 
 fn kset_said(alloc: Global, given: &Given, operands: &Operands) -> Result<Option<Said>, OutOfMemory>
     ensures { IfOk result (λ said. said ≡ kset_said (answers keywords.Kset given.now.slots) (key_set_of operands.now)) }
 {
-    let Some(name) = name_at(&answer(Keyword::Kset, given, Key::First)) else {
+    let Some(name) = name_at(Keyword::Kset, given, Key::First) else {
         return Ok(None);
     };
     match key_set_of(alloc, operands)? {
