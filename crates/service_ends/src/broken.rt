@@ -12,11 +12,11 @@ use crate::row::commit;
 use crate::terminal::say_ended;
 use crate::turned::Turned;
 use kd_base::{Bytes, OutOfMemory};
-use kdcs_types::{Act, Acts, Changes, Ending, ServiceId, Settled};
+use kdcs_types::{Act, Acts, Changes, Ending, ServiceId};
 use monitor_parts::output_lines::dump_line;
 use open_transaction::OpenTransaction;
 use std::alloc::Global;
-use sync_points::broken;
+use sync_points::{KeptRecord, broken};
 
 // The dump line of an abnormal end; PEND FR has none.
 fn dump_of(
@@ -76,7 +76,7 @@ fn break_off(
     id: &ServiceId,
     dump: Option<Bytes>,
     changes: Changes,
-    kept: Settled,
+    kept: KeptRecord,
 ) -> Result<Turned, OutOfMemory>
     requires indexed { IsIndexed parts.old }
     requires commits { CanCommit parts.old changes id.now None }

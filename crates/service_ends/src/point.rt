@@ -14,10 +14,10 @@ use crate::terminal::tell;
 use crate::turned::Turned;
 use abstract_monitor::Outcome;
 use kd_base::{Bytes, Name, OutOfMemory};
-use kdcs_types::{Acts, Changes, Ending, Service, ServiceId, Settled};
+use kdcs_types::{Acts, Changes, Ending, Service, ServiceId};
 use open_transaction::OpenTransaction;
 use std::alloc::Global;
-use sync_points::SettleAnswer;
+use sync_points::{KeptRecord, SettleAnswer};
 
 /// What is left of a transaction that comes to a point.
 #[derive(Drop)]
@@ -109,7 +109,7 @@ fn synchronise(
     ended: Ended,
     changes: Changes,
     row: Option<Service>,
-    kept: Settled,
+    kept: KeptRecord,
 ) -> Result<Turned, OutOfMemory>
     requires indexed { IsIndexed parts.old }
     requires commits { CanCommit parts.old changes ended.id row }

@@ -9,17 +9,27 @@ ghost use Rattle.service_ends.specs.Ending.{CanCommit, committed_in};
 
 use crate::core_state::MonitorParts;
 use kd_base::{Name, OutOfMemory};
-use kdcs_types::{Act, Acts, Change, Changes, Header, Key, Row, RowChanges, Service, ServiceId};
+use kdcs_types::{Act, Acts, Changes, Header, RowChanges, Service, ServiceId, Tables};
 use service_parts::service_runs::is_durable;
 use std::alloc::Global;
+use sync_points::service_change;
 
-fn service_change(id: &ServiceId, row: &Option<Service>) -> Result<Change, OutOfMemory>
-    ensures { IfOk result (λ change. change ≡ service_change id.now row.now) }
+// The row of the service is this one, or is gone, and nothing else changes.
+fn changes_of_row(
+    alloc: Global,
+    tables: &Tables,
+    id: &ServiceId,
+    row: &Option<Service>,
+) -> Result<Changes, OutOfMemory>
+    ensures { IfOk result (λ changes. changes ≡ record { clock = tables.now.clock; next_job = tables.now.next_job; items = service_change id.now row.now ∷ [] }) }
 {
-    match row {
-        Some(row) => Ok(Change::Set(Row::Service(*id, row.clone()?))),
-        None => Ok(Change::Remove(Key::Service(*id))),
-    }
+    let mut items = RowChanges::new(alloc);
+    items.push(service_change(*id, row)?)?;
+    Ok(Changes {
+        clock: tables.clock(),
+        next_job: tables.next_job(),
+        items,
+    })
 }
 
 /// The service has this row in the tables, or none. The durable rows fit into the page pool before and after that.
@@ -37,13 +47,7 @@ pub fn set_row(
     ensures same { OnOk result (SameApplication parts.old parts.new) }
     ensures state { OnOk result (state_of parts.new ≡ record (state_of parts.old) { tables = with_service parts.old.tables id.now row.now }) }
 {
-    let mut items = RowChanges::new(alloc);
-    items.push(service_change(id, row)?)?;
-    let changes = Changes {
-        clock: parts.tables.clock(),
-        next_job: parts.tables.next_job(),
-        items,
-    };
+    let changes = changes_of_row(alloc, &parts.tables, id, row)?;
     parts.change(&changes)
 }
 

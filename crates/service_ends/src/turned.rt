@@ -1,8 +1,9 @@
 //! What a turn did.
 ghost use Rattle.std.specs.Prelude.{◌≡◌, [], None};
 
-use kdcs_types::{Acts, Settled};
+use kdcs_types::Acts;
 use std::alloc::Global;
+use sync_points::KeptRecord;
 
 /// What a turn of a task did.
 #[derive(Drop)]
@@ -11,7 +12,7 @@ pub struct Turned {
     pub moved: bool,
     pub acts: Acts,
     /// What a transaction that made a commit keeps for its replay. Clauses alone speak of it.
-    pub settled: Option<Settled>,
+    pub settled: Option<KeptRecord>,
 }
 
 impl Turned {

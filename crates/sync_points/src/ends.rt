@@ -1,17 +1,35 @@
 //! Abnormal ends.
-ghost use Rattle.std.specs.Prelude.{◌≡◌, IfOk, OnOk};
+ghost use Rattle.std.specs.Prelude.{◌≡◌, ◌++◌, IfOk, OnOk};
 ghost use Rattle.kdcs_types.specs.{Difference.{difference}, Tables.{IsSortedTables}};
 ghost use Rattle.abstract_monitor.specs.{Endings.{broken, durable}, Statements.{kept_record}};
 ghost use Rattle.open_transaction.specs.Transactions.{transaction_of};
-ghost use Rattle.sync_points.specs.PointChanges.{end_changes};
+ghost use Rattle.sync_points.specs.PointChanges.{end_changes, end_writes};
 
-use crate::kept::kept_record;
+use crate::kept::{KeptRecord, kept_record};
 use crate::writes::{real_of, write_fate, write_service};
 use application_types::generation::Generation;
 use kd_base::OutOfMemory;
-use kdcs_types::{Changes, Ending, RowChanges, Settled, Tables};
+use kdcs_types::{Changes, Ending, RowChanges, Tables};
 use open_transaction::OpenTransaction;
 use std::alloc::Global;
+
+fn write_end(
+    changes: &mut RowChanges,
+    generation: &Generation,
+    tables: &Tables,
+    transaction: &OpenTransaction,
+) -> Result<(), OutOfMemory>
+    ensures { OnOk result (changes.new ≡ changes.old ++ end_writes generation.now tables.now transaction.now.id (transaction_of transaction.now)) }
+{
+    write_service(changes, generation, transaction.id, &None)?;
+    write_fate(
+        changes,
+        generation,
+        tables,
+        transaction.id,
+        &transaction.began,
+    )
+}
 
 fn end_changes(
     alloc: Global,
@@ -23,14 +41,7 @@ fn end_changes(
     ensures sorted { OnOk result (IsSortedTables tables.now) }
 {
     let mut changes = RowChanges::new(alloc);
-    write_service(&mut changes, generation, transaction.id, &None)?;
-    write_fate(
-        &mut changes,
-        generation,
-        tables,
-        transaction.id,
-        &transaction.began,
-    )?;
+    write_end(&mut changes, generation, tables, transaction)?;
     Ok(Changes {
         clock: tables.clock(),
         next_job: tables.next_job(),
@@ -48,7 +59,7 @@ pub fn broken(
     generation: &Generation,
     tables: &Tables,
     ending: Ending,
-) -> Result<(Changes, Settled), OutOfMemory>
+) -> Result<(Changes, KeptRecord), OutOfMemory>
     ensures changes { IfOk result (λ ended. ended.0 ≡ difference (durable generation.now tables.now) (durable generation.now (broken generation.now tables.now transaction.value.id (transaction_of transaction.value)))) }
     ensures kept { IfOk result (λ ended. ended.1 ≡ kept_record transaction.value.id (transaction_of transaction.value) ending) }
 {

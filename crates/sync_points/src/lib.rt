@@ -18,8 +18,10 @@ mod writes;
 ghost use Rattle.sync_points.specs.Laws.{PointsChangeWhatWasWritten, EndsChangeTheirOwnRows};
 
 pub use ends::broken;
+pub use kept::KeptRecord;
 pub use points::{SettleAnswer, settle};
 pub use real::{is_real, same_service, same_value};
+pub use writes::service_change;
 
 /// What a synchronisation point or an abnormal end changes in the durable tables is what the transaction wrote, where
 /// that is another row than stood there.

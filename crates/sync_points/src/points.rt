@@ -1,21 +1,22 @@
 //! Synchronisation points.
-ghost use Rattle.std.specs.Prelude.{◌≡◌, ◌++◌, ◌+◌, ◌≤◌, IfOk, OnOk, length, nat_lt};
+ghost use Rattle.std.specs.Prelude.{◌≡◌, ◌∷◌, [], ◌++◌, ◌+◌, ◌≤◌, false, IfOk, OnOk, length, nat_lt};
+ghost use Rattle.kdcs_types.specs.{declared.act.Change.TheVariants.{Set}, Tables.{job_row, with_changes}};
 ghost use Rattle.kd_base.specs.Limits.{last_clock, last_next_job};
 ghost use Rattle.abstract_monitor.specs.{Charges.{total_charge}, Endings.{durable, numbered, refusal, row_after, synchronised}};
-ghost use Rattle.laws_of_states.specs.PointLaws.{IsSoundlyOpen};
+ghost use Rattle.laws_of_states.specs.{JobLaw.{new_jobs}, PointLaws.{IsSoundlyOpen}};
 ghost use Rattle.open_transaction.specs.Transactions.{transaction_of};
 ghost use Rattle.service_parts.specs.Areas.{changes_of};
-ghost use Rattle.sync_points.specs.{Answers.{answer_by, point_by, refused_by}, PointChanges.{changes_with, job_changes}};
+ghost use Rattle.sync_points.specs.{Answers.{answer_by, point_by, refused_by}, PointChanges.{changes_with, job_changes, own_job_changes, service_changes}};
 
 use crate::gssbs::has_too_many_gssbs;
-use crate::kept::kept_record;
+use crate::kept::{KeptRecord, kept_record};
 use crate::pool::is_pool_full;
 use crate::row::row_after;
 use crate::writes::{real_of, write_own_job, write_service};
 use abstract_monitor::Outcome;
 use application_types::generation::Generation;
 use kd_base::{LAST_NEXT_JOB, OutOfMemory};
-use kdcs_types::{Cause, Change, Changes, Ending, Job, Row, RowChanges, Service, Settled, Tables};
+use kdcs_types::{Cause, Change, Changes, Ending, Job, Row, RowChanges, Service, Tables};
 use open_transaction::OpenTransaction;
 use std::alloc::Global;
 
@@ -24,7 +25,7 @@ use std::alloc::Global;
 pub enum SettleAnswer {
     /// The changes of the durable tables, the row of the service after the point, also for a user with RESTART=NO, and
     /// what the transaction keeps for its replay.
-    Synced(Changes, Option<Service>, Settled),
+    Synced(Changes, Option<Service>, KeptRecord),
     /// E10, E11 or E09, and the transaction as it was.
     Refused(Cause, Box<OpenTransaction>),
 }
@@ -36,11 +37,17 @@ enum Point {
     Refused(Cause),
 }
 
+fn write_job(changes: &mut RowChanges, job: Job) -> Result<(), OutOfMemory>
+    ensures { OnOk result (changes.new ≡ changes.old ++ Set (job_row job) ∷ []) }
+{
+    changes.push(Change::Set(Row::Job(job.number, job.value)))
+}
+
 fn write_jobs(changes: &mut RowChanges, jobs: Vec<Job>) -> Result<(), OutOfMemory>
     ensures { OnOk result (changes.new ≡ changes.old ++ job_changes jobs.items) }
 {
     for job in jobs {
-        changes.push(Change::Set(Row::Job(job.number, job.value)))?;
+        write_job(changes, job)?;
     }
     Ok(())
 }
@@ -51,6 +58,31 @@ fn spends_numbers(tables: &Tables, transaction: &OpenTransaction) -> bool
     ensures { result ≡ nat_lt last_next_job (tables.now.next_job + length (transaction_of transaction.now).drafts) }
 {
     transaction.drafts.len() as u64 > LAST_NEXT_JOB - tables.next_job()
+}
+
+// The row of the service and the jobs come after the areas.
+fn write_behind(
+    changes: &mut RowChanges,
+    alloc: Global,
+    generation: &Generation,
+    tables: &Tables,
+    transaction: &OpenTransaction,
+    row: &Option<Service>,
+) -> Result<(), OutOfMemory>
+    requires clock { tables.now.clock ≤ last_clock }
+    requires next { tables.now.next_job + length (transaction_of transaction.now).drafts ≤ last_next_job }
+    ensures { OnOk result (changes.new ≡ changes.old ++ service_changes generation.now transaction.now.id row.now ++ own_job_changes transaction.now.id transaction.now.began ++ job_changes (new_jobs tables.now (transaction_of transaction.now))) }
+{
+    let jobs = transaction.drafts.numbered(
+        tables.next_job(),
+        tables.clock(),
+        transaction.user,
+        transaction.lterm,
+        alloc,
+    )?;
+    write_service(changes, generation, transaction.id, row)?;
+    write_own_job(changes, transaction.id, &transaction.began)?;
+    write_jobs(changes, jobs)
 }
 
 fn point_changes(
@@ -67,19 +99,38 @@ fn point_changes(
     ensures { IfOk result (λ changes. changes ≡ changes_with generation.now tables.now transaction.now.id (transaction_of transaction.now) row.now) }
 {
     let mut changes = areas;
-    let clock = tables.clock();
-    let next = tables.next_job();
-    let jobs = transaction
-        .drafts
-        .numbered(next, clock, transaction.user, transaction.lterm, alloc)?;
-    write_service(&mut changes, generation, transaction.id, row)?;
-    write_own_job(&mut changes, transaction.id, &transaction.began)?;
-    write_jobs(&mut changes, jobs)?;
+    write_behind(&mut changes, alloc, generation, tables, transaction, row)?;
     Ok(Changes {
-        clock,
-        next_job: next + transaction.drafts.len() as u64,
+        clock: tables.clock(),
+        next_job: tables.next_job() + transaction.drafts.len() as u64,
         items: real_of(tables, changes),
     })
+}
+
+// The point of a transaction with not too many GSSBs or jobs, unless it would fill the page pool.
+fn point_with(
+    alloc: Global,
+    generation: &Generation,
+    tables: &Tables,
+    charge: u64,
+    transaction: &OpenTransaction,
+    outcome: Outcome,
+    areas: RowChanges,
+) -> Result<Point, OutOfMemory>
+    requires stands { IsSoundlyOpen generation.now tables.now transaction.now.id (transaction_of transaction.now) }
+    requires charge { charge ≡ total_charge generation.now.limits.blksize (durable generation.now tables.now) }
+    requires areas { areas ≡ changes_of (transaction_of transaction.now).written }
+    requires few_gssbs { nat_lt generation.now.limits.gssbs (length (with_changes tables.now areas).gssbs) ≡ false }
+    requires few_jobs { nat_lt last_next_job (tables.now.next_job + length (transaction_of transaction.now).drafts) ≡ false }
+    ensures { IfOk result (λ point. point ≡ point_by generation.now tables.now transaction.now outcome (refused_by generation.now tables.now transaction.now outcome)) }
+{
+    let _limits = generation.max(); // for the proof
+    let row = row_after(alloc, generation, transaction, outcome)?;
+    let changes = point_changes(alloc, generation, tables, transaction, areas, &row)?;
+    if is_pool_full(generation, tables, &changes, charge) {
+        return Ok(Point::Refused(Cause::E09));
+    }
+    Ok(Point::Passed(changes, row))
 }
 
 fn point_of(
@@ -102,12 +153,15 @@ fn point_of(
     if spends_numbers(tables, transaction) {
         return Ok(Point::Refused(Cause::E11));
     }
-    let row = row_after(alloc, generation, transaction, outcome)?;
-    let changes = point_changes(alloc, generation, tables, transaction, areas, &row)?;
-    if is_pool_full(generation, tables, &changes, charge) {
-        return Ok(Point::Refused(Cause::E09));
-    }
-    Ok(Point::Passed(changes, row))
+    point_with(
+        alloc,
+        generation,
+        tables,
+        charge,
+        transaction,
+        outcome,
+        areas,
+    )
 }
 
 /// A synchronisation point by PEND RE, SP, FI or FC, whose outcomes are Wait, Point, Finish and Follow. Where it is

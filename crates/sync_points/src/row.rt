@@ -1,6 +1,6 @@
 //! The row of a service after a synchronisation point.
-ghost use Rattle.std.specs.Prelude.{◌≡◌, IfOk, Some};
-ghost use Rattle.abstract_monitor.specs.Endings.{last_of, lterm_in_row, new_row, point_row, row_after};
+ghost use Rattle.std.specs.Prelude.{◌≡◌, [], true, false, IfOk, Some};
+ghost use Rattle.abstract_monitor.specs.Endings.{joined, last_of, lterm_in_row, new_row, point_row, row_after};
 ghost use Rattle.open_transaction.specs.Transactions.{transaction_of};
 
 use abstract_monitor::Outcome;
@@ -83,6 +83,38 @@ fn new_row(
     })
 }
 
+// The row of a service that awaits an input.
+fn waiting_row(
+    alloc: Global,
+    transaction: &OpenTransaction,
+    next: Name,
+) -> Result<Service, OutOfMemory>
+    ensures { IfOk result (λ row. row ≡ point_row transaction.now.id (transaction_of transaction.now) next true [] (Some (joined (transaction_of transaction.now).parts))) }
+{
+    let message = transaction.message(alloc)?;
+    point_row(
+        alloc,
+        transaction,
+        next,
+        true,
+        Parts::new(alloc),
+        Some(message),
+    )
+}
+
+// The row of a service that goes on at once.
+fn going_row(
+    alloc: Global,
+    transaction: &OpenTransaction,
+    next: Name,
+) -> Result<Service, OutOfMemory>
+    ensures { IfOk result (λ row. row ≡ point_row transaction.now.id (transaction_of transaction.now) next false (transaction_of transaction.now).parts (last_of (transaction_of transaction.now).began)) }
+{
+    let parts = parts_put(alloc, transaction)?;
+    let last = last_of(&transaction.began)?;
+    point_row(alloc, transaction, next, false, parts, last)
+}
+
 #[tactic(auto, unfolding(abstract_monitor::specs::Endings::row_after))]
 pub(crate) fn row_after(
     alloc: Global,
@@ -93,30 +125,8 @@ pub(crate) fn row_after(
     ensures { IfOk result (λ row. row ≡ row_after generation.now transaction.now.id (transaction_of transaction.now) outcome) }
 {
     match outcome {
-        Outcome::Wait(tac) => {
-            let message = transaction.message(alloc)?;
-            let row = point_row(
-                alloc,
-                transaction,
-                tac,
-                true,
-                Parts::new(alloc),
-                Some(message),
-            )?;
-            Ok(Some(row))
-        }
-        Outcome::Point(tac) => {
-            let parts = parts_put(alloc, transaction)?;
-            let row = point_row(
-                alloc,
-                transaction,
-                tac,
-                false,
-                parts,
-                last_of(&transaction.began)?,
-            )?;
-            Ok(Some(row))
-        }
+        Outcome::Wait(tac) => Ok(Some(waiting_row(alloc, transaction, tac)?)),
+        Outcome::Point(tac) => Ok(Some(going_row(alloc, transaction, tac)?)),
         Outcome::Follow(tac) => Ok(Some(new_row(alloc, generation, transaction, tac)?)),
         Outcome::Finish
         | Outcome::Hold(_)

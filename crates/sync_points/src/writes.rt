@@ -1,7 +1,7 @@
 //! What ends of transactions write, one kind of row after another.
 ghost use Rattle.std.specs.Prelude.{◌≡◌, ◌++◌, IfOk, OnOk, option_and_then, option_copied, filter};
 ghost use Rattle.sync_points.specs.PointChanges.{fate_changes, is_real, own_job_changes, service_changes};
-ghost use Rattle.abstract_monitor.specs.{Endings.{job_change}, Redelivery.{fate, has_dead_letter_queue}};
+ghost use Rattle.abstract_monitor.specs.{Endings.{job_change, service_change}, Redelivery.{fate, has_dead_letter_queue}};
 
 use crate::real::is_real;
 use application_types::generation::Generation;
@@ -9,6 +9,16 @@ use kd_base::OutOfMemory;
 use kdcs_types::{Change, JobValue, Key, Row, RowChanges, Service, ServiceId, Tables};
 use open_transaction::async_queue::{dead_letter_queue, fate_change, own_job};
 use service_parts::service_runs::is_durable;
+
+/// The row of a service is this one, or is gone.
+pub fn service_change(id: ServiceId, row: &Option<Service>) -> Result<Change, OutOfMemory>
+    ensures { IfOk result (λ change. change ≡ service_change id row.now) }
+{
+    match row {
+        Some(row) => Ok(Change::Set(Row::Service(id, row.clone()?))),
+        None => Ok(Change::Remove(Key::Service(id))),
+    }
+}
 
 pub(crate) fn write_service(
     changes: &mut RowChanges,
@@ -21,10 +31,7 @@ pub(crate) fn write_service(
     if !is_durable(generation, id) {
         return Ok(());
     }
-    match row {
-        Some(row) => changes.push(Change::Set(Row::Service(id, row.clone()?))),
-        None => changes.push(Change::Remove(Key::Service(id))),
-    }
+    changes.push(service_change(id, row)?)
 }
 
 pub(crate) fn write_own_job(
