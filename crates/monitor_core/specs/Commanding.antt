@@ -45,6 +45,12 @@ IsFor s pterm (Next text) = HasService s pterm Awaits
 IsFor s pterm (Start tac text) = HasService s pterm NoService
 IsFor s pterm _ = Unit {0}
 
+-- no service reads the input
+abbrev pub IsUnread : Use → Type 0
+IsUnread (Next text) = ⊥
+IsUnread (Start tac text) = ⊥
+IsUnread _ = Unit {0}
+
 -- KDCOFF of the user who is signed on at the PTERM
 abbrev pub off_step : Application → State → (pterm : Bytes) → ScriptStep
 off_step app s pterm = says (signed_off app s pterm (user_at s pterm)) (sys_line pterm (codes "SIGNED OFF " ++ user_at s pterm))

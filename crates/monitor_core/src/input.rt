@@ -4,7 +4,7 @@ ghost use Rattle.abstract_monitor.specs.{CommandsOf.{is_pterm}, declared.command
 ghost use Rattle.abstract_monitor.specs.{Commands.{command_of, lterm_at, next_input, says, start_service, uncommitted, use_now, used, user_at}, Lines.{sys_line}};
 ghost use Rattle.abstract_monitor.specs.Sessions.{is_awaiting, service_state};
 ghost use Rattle.service_ends.specs.{Whole.{app_of, IsWhole}, Standing.{IsIndexed, SameApplication, state_of}};
-ghost use Rattle.monitor_core.specs.{Commanding.{Comes, HasService, IsFor, off_step}, Counted.{IsAhead}};
+ghost use Rattle.monitor_core.specs.{Commanding.{Comes, HasService, IsFor, IsUnread, off_step}, Counted.{IsAhead}};
 
 use crate::message::{line_alone, say};
 use crate::showing::{Shown, display, show_again, show_next};
@@ -122,6 +122,39 @@ fn begin(
     Ok(Acts::new(alloc))
 }
 
+// What an input does that no service reads.
+#[tactic(auto, unfolding(abstract_monitor::specs::Commands::used))]
+fn answer_it(
+    parts: &mut MonitorParts,
+    alloc: Global,
+    pterm: &Name,
+    lterm: &Name,
+    meaning: &Use,
+) -> Result<Acts, OutOfMemory>
+    requires whole { IsWhole parts.old }
+    requires lterm { lterm.now ≡ lterm_at (app_of parts.old) pterm.now }
+    requires unread { IsUnread meaning.now }
+    requires meant { IsFor (state_of parts.old) pterm.now meaning.now }
+    ensures exact { IfOk result (λ acts. Comes (state_of parts.new) acts (used (app_of parts.old) (state_of parts.old) pterm.now lterm.now (user_at (state_of parts.old) pterm.now) meaning.now)) }
+    ensures indexed { OnOk result (IsIndexed parts.new) }
+    ensures same { OnOk result (SameApplication parts.old parts.new) }
+{
+    match meaning {
+        Use::Sign(name) => sign_on(parts, alloc, pterm, lterm, name),
+        Use::SignRefused(fault) => say(alloc, pterm, fault_text(*fault)),
+        Use::SignFirst => say(alloc, pterm, b"SIGN ON FIRST"),
+        Use::AlreadySigned => say(alloc, pterm, b"ALREADY SIGNED ON"),
+        Use::Off => leave(parts, alloc, pterm),
+        Use::Display => display(parts, alloc, pterm),
+        Use::Output => show_next(parts, alloc, Shown::Terminal, pterm, lterm),
+        Use::Again => show_again(parts, alloc, Shown::Terminal, pterm, lterm),
+        Use::Busy => say(alloc, pterm, b"SERVICE RUNNING"),
+        Use::TooLong => say(alloc, pterm, b"INPUT TOO LONG"),
+        Use::TacRefused(fault) => line_alone(alloc, refused_line(alloc, *pterm, *fault)?),
+        Use::Next(_) | Use::Start(_, _) => unreachable!(),
+    }
+}
+
 // What the use of an input does at this PTERM, which has this LTERM.
 #[tactic(auto, unfolding(abstract_monitor::specs::Commands::used))]
 fn use_it(
@@ -141,19 +174,9 @@ fn use_it(
     ensures same { OnOk result (SameApplication parts.old parts.new) }
 {
     match meaning {
-        Use::Sign(name) => sign_on(parts, alloc, pterm, lterm, &name),
-        Use::SignRefused(fault) => say(alloc, pterm, fault_text(fault)),
-        Use::SignFirst => say(alloc, pterm, b"SIGN ON FIRST"),
-        Use::AlreadySigned => say(alloc, pterm, b"ALREADY SIGNED ON"),
-        Use::Off => leave(parts, alloc, pterm),
-        Use::Display => display(parts, alloc, pterm),
-        Use::Output => show_next(parts, alloc, Shown::Terminal, pterm, lterm),
-        Use::Again => show_again(parts, alloc, Shown::Terminal, pterm, lterm),
-        Use::Busy => say(alloc, pterm, b"SERVICE RUNNING"),
-        Use::TooLong => say(alloc, pterm, b"INPUT TOO LONG"),
         Use::Next(text) => read_next(parts, alloc, pterm, lterm, text),
         Use::Start(tac, text) => begin(parts, alloc, pterm, lterm, &tac, text),
-        Use::TacRefused(fault) => line_alone(alloc, refused_line(alloc, *pterm, fault)?),
+        other => answer_it(parts, alloc, pterm, lterm, &other),
     }
 }
 

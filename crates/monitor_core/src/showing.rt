@@ -1,6 +1,6 @@
 //! The messages of jobs for LTERMs: KDCOUT and KDCLAST at a terminal, PRINT at a printer; and KDCDISP.
-ghost use Rattle.std.specs.{Prelude.{◌≡◌, ◌++◌, Some, IfOk, OnOk}, Option.{option_eq, option_map}, FinMap.{find}};
-ghost use Rattle.kdcs_types.specs.{Same.{job_value_eq}, Tables.{shown_of}};
+ghost use Rattle.std.specs.{Prelude.{◌≡◌, ◌∷◌, [], ◌++◌, Some, IfOk, OnOk}, Option.{option_eq, option_map}, FinMap.{find}};
+ghost use Rattle.kdcs_types.specs.{declared.act.Act.TheVariants.{Emit}, Same.{job_value_eq}, Tables.{shown_of}};
 ghost use Rattle.abstract_monitor.specs.{Bytes.{bytes_cmp}, Commands.{display, due_for, last_by, show_again, show_next}, Lines.{no_message_line}};
 ghost use Rattle.service_ends.specs.{Whole.{app_of, IsWhole}, Standing.{IsIndexed, SameApplication, state_of}};
 ghost use Rattle.laws_of_states.specs.CommitLaws.{shown_changes, shown_set};
@@ -98,6 +98,29 @@ fn due_for<'a>(parts: &'a MonitorParts, lterm: &Name) -> Option<DueJob<'a>>
     }
 }
 
+// The line of a job that is due, and what showing it changes.
+fn line_and_changes(
+    alloc: Global,
+    shown: Shown,
+    pterm: &Name,
+    lterm: &Name,
+    tables: &Tables,
+    due: &DueJob<'_>,
+) -> Result<(Bytes, Changes), OutOfMemory>
+    ensures line { IfOk result (λ made. made.0 ≡ shown_line shown pterm.now (shown_job due.now).value.message) }
+    ensures changes { IfOk result (λ made. made.1 ≡ shown_changes tables.now lterm.now (shown_job due.now)) }
+{
+    let line = shown_line(alloc, shown, pterm, due.value.message.as_slice())?;
+    let changes = shown_changes(alloc, tables, lterm, due)?;
+    Ok((line, changes))
+}
+
+fn no_message(alloc: Global, pterm: &Name) -> Result<Acts, OutOfMemory>
+    ensures { IfOk result (λ acts. acts ≡ Emit (no_message_line pterm.now) ∷ []) }
+{
+    line_alone(alloc, no_message_line(alloc, *pterm)?)
+}
+
 /// The next message for this LTERM, if one is due: its job leaves the tables in one commit, and it is shown.
 pub(crate) fn show_next(
     parts: &mut MonitorParts,
@@ -113,10 +136,9 @@ pub(crate) fn show_next(
 {
     let _clock = parts.tables.clock(); // for the proof
     let Some(due) = due_for(parts, lterm) else {
-        return line_alone(alloc, no_message_line(alloc, *pterm)?);
+        return no_message(alloc, pterm);
     };
-    let line = shown_line(alloc, shown, pterm, due.value.message.as_slice())?;
-    let changes = shown_changes(alloc, &parts.tables, lterm, &due)?;
+    let (line, changes) = line_and_changes(alloc, shown, pterm, lterm, &parts.tables, &due)?;
     parts.change(&changes)?;
     line_behind(alloc, changes, line)
 }

@@ -1,7 +1,7 @@
 //! Signing on and off.
-ghost use Rattle.std.specs.{Prelude.{◌≡◌, ◌∷◌, ◌++◌, Some, IfOk, OnOk, codes}, FinMap.{find}};
+ghost use Rattle.std.specs.{Prelude.{◌≡◌, ◌∷◌, [], ◌++◌, Some, None, IfOk, OnOk, codes}, FinMap.{find}};
 ghost use Rattle.kdcs_types.specs.{declared.act.Act.TheVariants.{Emit}, declared.key.ServiceId.TheVariants.{Dialogue}, Tables.{service_of}};
-ghost use Rattle.abstract_monitor.specs.{Bytes.{bytes_cmp}, Commands.{drop_by, lterm_at, out_again, resumed_by, signed_off, signed_on, with_session}, Endings.{restarts}, Lines.{sys_line}};
+ghost use Rattle.abstract_monitor.specs.{Bytes.{bytes_cmp}, Commands.{drop_by, lterm_at, out_again, resumed_by, signed_off, signed_on, signed_on_by, with_session}, Endings.{restarts}, Lines.{sys_line}};
 ghost use Rattle.open_transaction.specs.Transactions.{HasOrder};
 ghost use Rattle.monitor_parts.specs.Signed.{CanSignOn};
 ghost use Rattle.service_ends.specs.{Whole.{app_of, IsWhole}, Standing.{IsIndexed, SameApplication, state_of}};
@@ -16,6 +16,26 @@ use service_ends::core_state::MonitorParts;
 use service_ends::{go_on, set_row};
 use std::alloc::Global;
 
+fn send_last(
+    acts: &mut Acts,
+    alloc: Global,
+    pterm: &Name,
+    last: &Option<Bytes>,
+) -> Result<(), OutOfMemory>
+    ensures { OnOk result (acts.new ≡ acts.old ++ out_again pterm.now last.now) }
+{
+    match last {
+        Some(message) => acts.push(Act::Emit(out_line(alloc, *pterm, message.as_slice())?)),
+        None => Ok(()),
+    }
+}
+
+fn say_signed_on(alloc: Global, pterm: &Name, user: &Name) -> Result<Acts, OutOfMemory>
+    ensures { IfOk result (λ acts. acts ≡ Emit (sys_line pterm.now (codes "SIGNED ON " ++ user.now)) ∷ []) }
+{
+    line_alone(alloc, signed_on_line(alloc, *pterm, *user)?)
+}
+
 // What a user sees who signs on: that it is so, and the last dialogue message of an open service again.
 fn greeting(
     alloc: Global,
@@ -25,14 +45,25 @@ fn greeting(
 ) -> Result<Acts, OutOfMemory>
     ensures { IfOk result (λ acts. acts ≡ Emit (sys_line pterm.now (codes "SIGNED ON " ++ user.now)) ∷ out_again pterm.now last.now) }
 {
-    let mut acts = line_alone(alloc, signed_on_line(alloc, *pterm, *user)?)?;
-    match last {
-        Some(message) => {
-            acts.push(Act::Emit(out_line(alloc, *pterm, message.as_slice())?))?;
-            Ok(acts)
-        }
-        None => Ok(acts),
-    }
+    let mut acts = say_signed_on(alloc, pterm, user)?;
+    send_last(&mut acts, alloc, pterm, last)?;
+    Ok(acts)
+}
+
+// The user is signed on, and has seen the last message of this row.
+fn sign_on_with(
+    parts: &mut MonitorParts,
+    pterm: &Name,
+    user: &Name,
+    row: &Service,
+) -> Result<(), OutOfMemory>
+    requires indexed { IsIndexed parts.old }
+    requires can { CanSignOn (state_of parts.old).signed pterm.now user.now }
+    ensures indexed { OnOk result (IsIndexed parts.new) }
+    ensures same { OnOk result (SameApplication parts.old parts.new) }
+    ensures state { OnOk result (state_of parts.new ≡ with_session (state_of parts.old) pterm.now user.now row.now.last) }
+{
+    parts.sign_on(pterm, user, row.last.clone()?)
 }
 
 // The user is signed on, and the service goes on from its row, unless that awaits an input.
@@ -52,7 +83,7 @@ fn resume(
     ensures indexed { OnOk result (IsIndexed parts.new) }
     ensures same { OnOk result (SameApplication parts.old parts.new) }
 {
-    parts.sign_on(pterm, user, row.last.clone()?)?;
+    sign_on_with(parts, pterm, user, &row)?;
     if row.awaits {
         return Ok(());
     }
@@ -67,6 +98,45 @@ pub(crate) fn row_of(tables: &Tables, user: &Name) -> Result<Option<Service>, Ou
         Some(row) => Ok(Some(row.clone()?)),
         None => Ok(None),
     }
+}
+
+// A user without a service signs on.
+fn sign_on_anew(
+    parts: &mut MonitorParts,
+    alloc: Global,
+    pterm: &Name,
+    user: &Name,
+) -> Result<Acts, OutOfMemory>
+    requires indexed { IsIndexed parts.old }
+    requires can { CanSignOn (state_of parts.old).signed pterm.now user.now }
+    ensures exact { IfOk result (λ acts. Comes (state_of parts.new) acts (signed_on_by (app_of parts.old) (state_of parts.old) pterm.now user.now (lterm_at (app_of parts.old) pterm.now) None)) }
+    ensures indexed { OnOk result (IsIndexed parts.new) }
+    ensures same { OnOk result (SameApplication parts.old parts.new) }
+{
+    parts.sign_on(pterm, user, None)?;
+    greeting(alloc, pterm, user, &None)
+}
+
+// A user with this row of a service signs on.
+fn sign_on_again(
+    parts: &mut MonitorParts,
+    alloc: Global,
+    pterm: &Name,
+    lterm: &Name,
+    user: &Name,
+    row: Service,
+) -> Result<Acts, OutOfMemory>
+    requires indexed { IsIndexed parts.old }
+    requires can { CanSignOn (state_of parts.old).signed pterm.now user.now }
+    requires order { HasOrder (Some row) }
+    requires rests { Rests (state_of parts.old) (Dialogue user.now) }
+    ensures exact { IfOk result (λ acts. Comes (state_of parts.new) acts (signed_on_by (app_of parts.old) (state_of parts.old) pterm.now user.now lterm.now (Some row))) }
+    ensures indexed { OnOk result (IsIndexed parts.new) }
+    ensures same { OnOk result (SameApplication parts.old parts.new) }
+{
+    let acts = greeting(alloc, pterm, user, &row.last)?;
+    resume(parts, alloc, pterm, lterm, user, row)?;
+    Ok(acts)
 }
 
 /// KDCSIGN of a user who may sign on: a user with an open service sees its last dialogue message again, and a service that
@@ -85,13 +155,10 @@ pub(crate) fn sign_on(
     ensures indexed { OnOk result (IsIndexed parts.new) }
     ensures same { OnOk result (SameApplication parts.old parts.new) }
 {
-    let Some(row) = row_of(&parts.tables, user)? else {
-        parts.sign_on(pterm, user, None)?;
-        return greeting(alloc, pterm, user, &None);
-    };
-    let acts = greeting(alloc, pterm, user, &row.last)?;
-    resume(parts, alloc, pterm, lterm, user, row)?;
-    Ok(acts)
+    match row_of(&parts.tables, user)? {
+        None => sign_on_anew(parts, alloc, pterm, user),
+        Some(row) => sign_on_again(parts, alloc, pterm, lterm, user, row),
+    }
 }
 
 // Whether the user has RESTART=YES.
