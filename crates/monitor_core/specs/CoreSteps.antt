@@ -1,11 +1,13 @@
 -- A core between two steps of a script: what its store keeps, and what its turns and commands are as steps.
-use Rattle.std.specs.Prelude.{ℕ, List, [], ◌∷◌}
+use Rattle.std.specs.Prelude.{◌≡◌, ◌-◌, ℕ, List, [], ◌∷◌, Some, None, slice_get}
 use Rattle.kdcs_types.specs.Tables.{TableRows}
 use Rattle.abstract_monitor.specs.declared.command.Command.{Command}
 use Rattle.abstract_monitor.specs.declared.command.Command.TheVariants.{Input, Tick, Run, Turn, Drop, Print, PrintLast, Restart}
 use Rattle.abstract_monitor.specs.Commands.{ScriptStep, command_of, turned_step}
 use Rattle.abstract_monitor.specs.Endings.{durable}
-use Rattle.abstract_monitor.specs.Turns.{turn_of}
+use Rattle.abstract_monitor.specs.Picks.{pick}
+use Rattle.abstract_monitor.specs.State.{Application, State}
+use Rattle.abstract_monitor.specs.Turns.{took, turn_of, unmoved}
 use Rattle.monitor_core.specs.CoreValue.{CoreValue}
 
 -- the durable tables of a core: what a stop leaves of its tables
@@ -18,6 +20,14 @@ turn_steps c task = turned_step (turn_of c.application c.state task) ∷ []
 
 abbrev pub command_steps : CoreValue → Command → List ScriptStep
 command_steps c command = command_of c.application c.state command ∷ []
+
+-- no service holds the task
+abbrev pub IsFree : State → (task : ℕ) → Type 0
+IsFree s task = slice_get s.tasks (task - 1) ≡ Some None
+
+-- a free task, whichever it is, finds no work
+abbrev pub HasNoWork : Application → State → Type 0
+HasNoWork app s = (task : ℕ) → took app s task (pick app s) ≡ unmoved s
 
 -- how many turns and commands a command makes at most
 abbrev pub turns_of : Command → ℕ

@@ -22,3 +22,4 @@ pub mod Keeping
 pub mod KeepingLaws
 pub mod ScriptsLaws
 pub mod ResultsLaws
+pub mod IdleLaws

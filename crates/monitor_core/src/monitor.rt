@@ -1,21 +1,21 @@
 //! A monitor between two commands.
-ghost use Rattle.std.specs.Prelude.{◌≡◌, ◌<◌, ◌^◌, IfOk, IsTrue};
+ghost use Rattle.std.specs.{Prelude.{◌≡◌, ◌<◌, ◌^◌, IfOk, IsTrue}, Bool.{OnTrue}};
 ghost use Rattle.application_types.specs.Soundness.{AreLimits};
 ghost use Rattle.application_types.specs.Statements.{IsWithin};
 ghost use Rattle.kdcs_types.specs.Tables.{IsSortedTables};
 ghost use Rattle.application_types.specs.Fitted.{IsFit};
 ghost use Rattle.laws_of_runs.specs.Applied.{applied};
 ghost use Rattle.laws_of_states.specs.{Applications.{IsApplication}, Keeping.{HasFacts}, Replay.{SettlesAs}, Suits.{Suits}};
-ghost use Rattle.abstract_monitor.specs.{CommandsOf.{IsCommandOf, is_pterm}, Commands.{command_of, lterm_at, started, turned_step, use_now}, Endings.{durable}, Turns.{turn_of}};
+ghost use Rattle.abstract_monitor.specs.{CommandsOf.{IsCommandOf, is_pterm}, Commands.{command_of, lterm_at, started, turned_step, use_now}, Endings.{durable}, Turns.{turn_of, unmoved}};
 ghost use Rattle.laws_of_runs.specs.{Access.{KeepsAccess}, QueueLaws.{KeepsQueues}, Replays.{AllReplay}, SerialLaws.{IsSerialStep}};
 ghost use Rattle.service_ends.specs.Ending.{turned_to};
 ghost use Rattle.monitor_core.specs.Commanding.{Comes, IsCoreCommand};
-ghost use Rattle.monitor_core.specs.{CoreValue.{OneStep, core_value}, Steps.{came_to}};
+ghost use Rattle.monitor_core.specs.{CoreSteps.{HasNoWork, IsFree}, CoreValue.{OneStep, core_value}, Steps.{came_to}};
 
 use crate::applying::apply;
 use crate::input::use_of;
 use crate::start::parts_of;
-use crate::turning::turn;
+use crate::turning::{count, is_free, turn};
 use abstract_monitor::{Command, Use};
 use application_types::generation::Generation;
 use application_types::units::Units;
@@ -124,6 +124,30 @@ impl Core {
         let mut parts = self.parts;
         let did = turn(&mut parts, alloc, task)?;
         Ok((Core { parts }, did))
+    }
+
+    /// Whether the task, from 1 to TASKS, holds no service. It takes no memory.
+    pub fn is_free(&self, task: u16) -> bool
+        requires task { IsWithin 1 self.now.application.generation.limits.tasks task }
+        ensures { OnTrue result (IsFree self.now.state task) }
+    {
+        is_free(&self.parts, task)
+    }
+
+    /// One turn of a free task where there is no work: it is counted. Fewer than 10^18 turns and commands were done. It
+    /// takes no memory.
+    pub fn idle(self, task: u16) -> Core
+        requires free { IsFree self.state task }
+        requires none { HasNoWork self.application self.state }
+        requires steps { self.steps < 10 ^ 18 }
+        ensures exact { unmoved result.state ≡ turn_of self.application self.state task }
+        ensures same { result.state ≡ self.state }
+        ensures one { OneStep self result }
+        ensures facts { HasFacts result.application result.state }
+    {
+        let mut parts = self.parts;
+        count(&mut parts);
+        Core { parts }
     }
 
     /// TASKS of the generation. It takes no memory.

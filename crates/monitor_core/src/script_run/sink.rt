@@ -1,9 +1,9 @@
 //! What is done with the steps of a script.
-ghost use Rattle.std.specs.Prelude.{◌<◌, ◌≡◌, ◌^◌, [], List, IfOk, IfErr};
+ghost use Rattle.std.specs.Prelude.{◌<◌, ◌≡◌, ◌^◌, [], List, IfOk, IfErr, false};
 ghost use Rattle.application_types.specs.Statements.{IsWithin};
 ghost use Rattle.abstract_monitor.specs.{CommandsOf.{IsCommandOf}, Commands.{ScriptStep}, declared.command.Command.TheVariants.{Restart}};
 ghost use Rattle.laws_of_states.specs.Applications.{IsApplication};
-ghost use Rattle.monitor_core.specs.{Commanding.{IsCoreCommand}, CoreSteps.{command_steps, turn_steps}, CoreValue.{CoreValue, OneStep}};
+ghost use Rattle.monitor_core.specs.{Commanding.{IsCoreCommand}, CoreSteps.{command_steps, turn_steps, HasNoWork, IsFree}, CoreValue.{CoreValue, OneStep}};
 ghost use Rattle.monitor_core.specs.Sinks.{DidTurn, SinkGoesOn};
 
 use crate::Core;
@@ -38,6 +38,21 @@ pub trait Sink {
         ensures took { IfOk result (λ next. took self.old core (turn_steps core task) self.new next.0) }
         ensures turned { IfOk result (λ next. DidTurn core task next.0 next.1) }
         ensures failed { IfErr result (λ e. failed self.old core (turn_steps core task) e self.new) };
+
+    /// One turn of a free task where there is no work.
+    fn idle(&mut self, alloc: Global, core: Core, task: u16) -> Result<Core, Self::Error>
+        requires ready { ready self.old core }
+        requires task { IsWithin 1 core.application.generation.limits.tasks task }
+        requires free { IsFree core.state task }
+        requires none { HasNoWork core.application core.state }
+        requires steps { core.steps < 10 ^ 18 }
+        ensures took { IfOk result (λ next. took self.old core (turn_steps core task) self.new next) }
+        ensures turned { IfOk result (λ next. DidTurn core task next false) }
+        ensures failed { IfErr result (λ e. failed self.old core (turn_steps core task) e self.new) }
+    {
+        let (next, _moved) = self.turn(alloc, core, task)?;
+        Ok(next)
+    }
 
     /// A command that is no RUN, TURN or RESTART.
     fn apply(&mut self, alloc: Global, core: Core, command: &Command) -> Result<Core, Self::Error>

@@ -4,7 +4,6 @@ use Rattle.abstract_monitor.specs.State.{Application}
 use Rattle.application_types.specs.Generation.{Generated}
 use Rattle.kdcs_types.specs.Tables.{TableRows}
 use Rattle.laws_of_states.specs.Suits.{Suits}
-use Rattle.monitor_core.specs.CoreSteps.{durable_of}
 use Rattle.monitor_core.specs.KeepingLaws.{durable_started}
 use Rattle.monitor_core.specs.ResultsLaws.{if_both}
 use Rattle.monitor_core.proofs.script_run.beside.start_beside.Goals as goal

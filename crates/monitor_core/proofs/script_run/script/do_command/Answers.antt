@@ -1,4 +1,4 @@
-use Rattle.std.proofs.Common.{List, sym, ap, subst, ◌∙◌, arith}
+use Rattle.std.proofs.Common.{List, sym, subst, arith}
 use Rattle.std.specs.Prelude.{IfErr, IfOk}
 use Rattle.std.proofs.lemmas.Result.{IfOk-weaker}
 use Rattle.abstract_monitor.specs.declared.command.Command.{Command}
@@ -7,7 +7,6 @@ use Rattle.abstract_monitor.specs.Commands.{ScriptStep}
 use Rattle.laws_of_runs.specs.HistoryLaws.{steps_of_run, steps_of_turn, steps_of_restart}
 use Rattle.monitor_core.specs.Commanding.{IsCoreCommand}
 use Rattle.monitor_core.specs.CommandingLaws.{single_of, steps_of_single}
-use Rattle.monitor_core.specs.CoreSteps.{turns_of}
 use Rattle.monitor_core.specs.ResultsLaws.{handed_on, if_err_all}
 use Rattle.monitor_core.proofs.script_run.script.do_command.Goals as goal
 
