@@ -1,6 +1,6 @@
 -- A step whose acts are performed, or are not.
-use Rattle.std.proofs.Common.{◌≡◌, ◌⊎◌, inl, inr, ◌≤◌, ◌<◌, ◌+◌, ◌^◌, ℕ, List, [], ◌∷◌, refl, sym, ap, subst, ◌∙◌, arith}
-use Rattle.std.specs.Prelude.{IsTrue, Result, Err, IsErrOf}
+use Rattle.std.proofs.Common.{◌≡◌, ◌⊎◌, ◌≤◌, ◌<◌, ◌+◌, ◌^◌, ℕ, List, [], ◌∷◌, refl, sym, ap, subst, ◌∙◌, arith}
+use Rattle.std.specs.Prelude.{IsTrue, Err, IsErrOf}
 use Rattle.kd_device.specs.Device.{State, Rose}
 use Rattle.kd_device.specs.TimeLaws.{told_after}
 use Rattle.kd_device.specs.declared.error.DeviceError.{DeviceError}
@@ -20,7 +20,6 @@ use Rattle.device_acts.specs.Acting.{JoinsParts, LineOrDisk, DidActs, WithinActs
 use Rattle.device_acts.specs.ActingLaws.{none_within}
 use Rattle.device_acts.specs.Causes.{of_device}
 use Rattle.device_acts.specs.WritingLaws.{none_begun, quiet_begun, writes_most}
-use Rattle.device_acts.specs.declared.warm_start.error.OpenError.{OpenError}
 use Rattle.device_acts.specs.declared.warm_start.error.OpenError.TheVariants as opening
 use Rattle.device_run.specs.Running.{commits_most_with, identity_of}
 use Rattle.device_run.specs.Keeping.{StandsForRows, StepsWriteWith, WithinStepsWith}

@@ -4,3 +4,4 @@ pub mod Restarting
 pub mod Single
 pub mod Acting
 pub mod Stopping
+pub mod Idle

@@ -1,4 +1,4 @@
-use Rattle.std.proofs.Common.{◌≡◌, rules, arith}
+use Rattle.std.proofs.Common.{◌≡◌, arith}
 use Rattle.std.proofs.lemmas.Grind.{common_steps}
 use Rattle.laws_of_states.specs.Cut.{commits_in}
 use Rattle.device_run.proofs.commits.count_commits.Goals as goal
