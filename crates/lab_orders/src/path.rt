@@ -4,10 +4,11 @@ ghost use Rattle.abstract_monitor.specs.Trace.{bytes_of, tables_after};
 ghost use Rattle.monitor_core.specs.Keeping.{AreKept};
 
 use kd_base::{Bytes, OutOfMemory, Sequence};
-use kdcs_types::{Act, Acts, Code, Ending, Note, Settled, Tables};
+use kdcs_types::{Act, Acts, Code, Ending, Note, Tables};
 use monitor_core::script_run::keep_commits;
 use monitor_core::{Core, Turned};
 use std::alloc::Global;
+use sync_points::KeptRecord;
 
 /// The turns of all RUNs of a script that have an effect, one after another, each the number of its task. 0 ends a RUN that
 /// is over before it had so many.
@@ -62,10 +63,11 @@ impl Signs {
     }
 
     // The codes and the ending of a transaction.
-    fn see_settled(&mut self, settled: &Option<Settled>) {
+    fn see_settled(&mut self, settled: &Option<KeptRecord>) {
         let Some(kept) = settled else {
             return;
         };
+        let kept = kept.settled();
         self.see_notes(kept.notes.as_slice());
         if let Ending::Broken(_) = kept.ending {
             self.dump = true;
@@ -121,7 +123,11 @@ impl Path {
     }
 
     /// Acts were done, of a transaction that settled or of none.
-    pub(crate) fn keep(&mut self, acts: Acts, settled: &Option<Settled>) -> Result<(), OutOfMemory>
+    pub(crate) fn keep(
+        &mut self,
+        acts: Acts,
+        settled: &Option<KeptRecord>,
+    ) -> Result<(), OutOfMemory>
         requires { AreKept acts }
         ensures turns { OnOk result (self.new.turns ≡ self.old.turns) }
         ensures sent { OnOk result (self.new.sent ≡ self.old.sent ++ bytes_of acts) }

@@ -7,17 +7,17 @@ use crate::kept::{Kept, put_entry};
 use abstract_monitor::Command;
 use audit_trail::By;
 use kd_base::OutOfMemory;
-use kdcs_types::Settled;
 use monitor_core::script_run::{Sink, apply_beside, start_beside, turn_beside};
 use monitor_core::{Core, Turned};
 use std::alloc::Global;
+use sync_points::KeptRecord;
 
 // What made the commit of a turn: the transaction that it ended.
-fn maker_of(settled: Option<Settled>) -> Option<By>
+fn maker_of(settled: Option<KeptRecord>) -> Option<By>
     ensures { result ≡ option_map by_of (maker_of settled) }
 {
     match settled {
-        Some(kept) => Some(By::Transaction(kept)),
+        Some(kept) => Some(By::Transaction(kept.into_settled())),
         None => None,
     }
 }
