@@ -1,6 +1,6 @@
 //! The values of rows as bytes.
 ghost use Rattle.std.specs.Prelude.{◌≡◌, ◌<◌, ◌^◌, ◌++◌, List, ℕ, length, flat_map, All, OnOk, IfOk};
-ghost use Rattle.kd_base.specs.Field.{list};
+ghost use Rattle.kd_base.specs.{Field.{list}, Text.{padded}};
 ghost use Rattle.kdcs_types.specs.Tables.{row_key};
 ghost use Rattle.record_codec.specs.Values.{counted, flag, last_bytes, lterm_bytes, lssb_bytes, service_bytes, target_bytes, times_bytes, job_bytes, value_bytes, HasShortValue};
 
@@ -113,21 +113,36 @@ fn put_lssbs(lssbs: &[(Name, Bytes)], w: &mut Bytes) -> Result<(), OutOfMemory>
     put_each_lssb(lssbs, w)
 }
 
+// Whose service it is, and where it stands.
+fn put_head(s: &Service, w: &mut Bytes) -> Result<(), OutOfMemory>
+    ensures { OnOk result (w.new ≡ w.old ++ padded s.now.first ++ padded s.now.next ++ flag s.now.awaits ++ padded s.now.user ++ lterm_bytes s.now.lterm) }
+{
+    w.put_name(s.first)?;
+    w.put_name(s.next)?;
+    put_flag(s.awaits, w)?;
+    w.put_name(s.user)?;
+    put_lterm(&s.lterm, w)
+}
+
+// What it keeps.
+fn put_content(s: &Service, w: &mut Bytes) -> Result<(), OutOfMemory>
+    requires { length (list s.now.kb ++ counted list s.now.handed ++ last_bytes s.now.last ++ counted lssb_bytes s.now.lssbs) < 2 ^ 32 }
+    ensures { OnOk result (w.new ≡ w.old ++ list s.now.kb ++ counted list s.now.handed ++ last_bytes s.now.last ++ counted lssb_bytes s.now.lssbs) }
+{
+    w.put_list(s.kb.as_slice())?;
+    put_parts(s.handed.as_slice(), w)?;
+    put_last(&s.last, w)?;
+    put_lssbs(s.lssbs.as_slice(), w)
+}
+
 /// The value of a service's record.
 pub fn service_value(alloc: Global, s: &Service) -> Result<Bytes, OutOfMemory>
     requires { length (service_bytes s.now) < 2 ^ 32 }
     ensures { IfOk result (λ bytes. bytes ≡ service_bytes s.now) }
 {
     let mut w = Bytes::new(alloc);
-    w.put_name(s.first)?;
-    w.put_name(s.next)?;
-    put_flag(s.awaits, &mut w)?;
-    w.put_name(s.user)?;
-    put_lterm(&s.lterm, &mut w)?;
-    w.put_list(s.kb.as_slice())?;
-    put_parts(s.handed.as_slice(), &mut w)?;
-    put_last(&s.last, &mut w)?;
-    put_lssbs(s.lssbs.as_slice(), &mut w)?;
+    put_head(s, &mut w)?;
+    put_content(s, &mut w)?;
     Ok(w)
 }
 
