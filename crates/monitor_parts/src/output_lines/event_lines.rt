@@ -1,24 +1,17 @@
 //! One output line for each event, ended by LF. Each call takes memory for its line.
 ghost use Rattle.std.specs.Prelude.{◌≡◌, ◌∷◌, ◌++◌, codes, decimal, IfOk, OnOk};
 ghost use Rattle.abstract_monitor.specs.Commands.{refusal_text};
-ghost use Rattle.abstract_monitor.specs.Lines.{line, out_line, asy_line, prt_line, sys_line, no_message_line, ended_line, owner_text, dump_line, tick_line, tick_refused_line};
+ghost use Rattle.abstract_monitor.specs.Lines.{line, out_line, asy_line, prt_line, sys_line, no_message_line, ended_line, owner_text, cause_text, dump_line, tick_line, tick_refused_line};
 
 use crate::output_lines::texts::cause_text;
+use crate::output_lines::words::{put_number, put_owner, put_word};
 use abstract_monitor::{Denial, TacFault};
 use kd_base::{Bytes, Name, OutOfMemory, escape};
 use kdcs_types::{Cause, ServiceId};
 use std::alloc::Global;
 
-// Puts a space and a word.
-fn put_word(out: &mut Bytes, word: &[u8]) -> Result<(), OutOfMemory>
-    ensures { OnOk result (out.new ≡ out.old ++ 32 ∷ word.now) }
-{
-    out.push(b' ')?;
-    out.append(word)
-}
-
 // Puts a number in decimal digits.
-fn put_number(out: &mut Bytes, alloc: Global, number: u64) -> Result<(), OutOfMemory>
+fn put_digits(out: &mut Bytes, alloc: Global, number: u64) -> Result<(), OutOfMemory>
     ensures { OnOk result (out.new ≡ out.old ++ decimal number) }
 {
     let digits = format!(in alloc; "{number}")?;
@@ -92,7 +85,7 @@ fn text_of_code(alloc: Global, said: &[u8], code: u16) -> Result<Bytes, OutOfMem
     ensures { IfOk result (λ out. out ≡ said.now ++ decimal code) }
 {
     let mut text = Bytes::from_slice(alloc, said)?;
-    put_number(&mut text, alloc, u64::from(code))?;
+    put_digits(&mut text, alloc, u64::from(code))?;
     Ok(text)
 }
 
@@ -138,10 +131,28 @@ pub fn owner_text(alloc: Global, id: ServiceId) -> Result<Bytes, OutOfMemory>
         ServiceId::Dialogue(user) => Bytes::from_slice(alloc, user.as_slice()),
         ServiceId::Asynchronous(number) => {
             let mut out = Bytes::from_slice(alloc, b"#")?;
-            put_number(&mut out, alloc, number)?;
+            put_digits(&mut out, alloc, number)?;
             Ok(out)
         }
     }
+}
+
+// Puts the words of a dump, and ends the line.
+fn put_dump(
+    alloc: Global,
+    out: &mut Bytes,
+    id: ServiceId,
+    tac: Name,
+    cause: Cause,
+    place: u32,
+) -> Result<(), OutOfMemory>
+    ensures { OnOk result (out.new ≡ line (out.old ++ 32 ∷ owner_text id ++ 32 ∷ tac ++ 32 ∷ cause_text cause ++ 32 ∷ decimal place)) }
+{
+    put_owner(alloc, out, id)?;
+    put_word(out, tac.as_slice())?;
+    put_word(out, cause_text(cause))?;
+    put_number(alloc, out, u64::from(place))?;
+    out.push(b'\n')
 }
 
 /// `DUMP`: an abnormal end of a service, with its current TAC, the cause, and the number of the statement in its unit,
@@ -155,13 +166,8 @@ pub fn dump_line(
 ) -> Result<Bytes, OutOfMemory>
     ensures { IfOk result (λ out. out ≡ dump_line id tac cause place) }
 {
-    let mut out = Bytes::from_slice(alloc, b"DUMP ")?;
-    out.append(owner_text(alloc, id)?.as_slice())?;
-    put_word(&mut out, tac.as_slice())?;
-    put_word(&mut out, cause_text(cause))?;
-    out.push(b' ')?;
-    put_number(&mut out, alloc, u64::from(place))?;
-    out.push(b'\n')?;
+    let mut out = Bytes::from_slice(alloc, b"DUMP")?;
+    put_dump(alloc, &mut out, id, tac, cause, place)?;
     Ok(out)
 }
 
@@ -170,7 +176,7 @@ pub fn tick_line(alloc: Global, clock: u64) -> Result<Bytes, OutOfMemory>
     ensures { IfOk result (λ out. out ≡ tick_line clock) }
 {
     let mut out = Bytes::from_slice(alloc, b"TICK ")?;
-    put_number(&mut out, alloc, clock)?;
+    put_digits(&mut out, alloc, clock)?;
     out.push(b'\n')?;
     Ok(out)
 }

@@ -3,7 +3,8 @@ ghost use Rattle.std.specs.Prelude.{◌≡◌, ◌++◌, flat_map, OnOk, IfOk};
 ghost use Rattle.abstract_monitor.specs.Listing.{gssb_line, block_line, lssb_line, service_lines, job_line, shown_line, listing};
 
 use crate::output_lines::row_lines::{
-    block_line, gssb_line, job_line, kb_line, lssb_line, number_line, service_line, shown_line,
+    put_block_line, put_gssb_line, put_job_line, put_kb_line, put_lssb_line, put_number_line,
+    put_service_line, put_shown_line,
 };
 use kd_base::{Bytes, Name, OutOfMemory};
 use kdcs_types::{Job, JobValue, Service, Tables};
@@ -13,7 +14,7 @@ fn put_gssbs(alloc: Global, rows: &[(Name, Bytes)], text: &mut Bytes) -> Result<
     ensures { OnOk result (text.new ≡ text.old ++ flat_map gssb_line rows.now) }
 {
     for row in rows {
-        text.append(gssb_line(alloc, row)?.as_slice())?;
+        put_gssb_line(alloc, row, text)?;
     }
     Ok(())
 }
@@ -28,7 +29,7 @@ fn put_blocks(
     ensures { OnOk result (text.new ≡ text.old ++ flat_map (block_line kind.now) rows.now) }
 {
     for row in rows {
-        text.append(block_line(alloc, kind, row)?.as_slice())?;
+        put_block_line(alloc, kind, row, text)?;
     }
     Ok(())
 }
@@ -37,7 +38,7 @@ fn put_lssbs(alloc: Global, service: &Service, text: &mut Bytes) -> Result<(), O
     ensures { OnOk result (text.new ≡ text.old ++ flat_map (lssb_line service.now) service.now.lssbs) }
 {
     for lssb in service.lssbs.as_slice() {
-        text.append(lssb_line(alloc, service, lssb)?.as_slice())?;
+        put_lssb_line(alloc, service, lssb, text)?;
     }
     Ok(())
 }
@@ -46,8 +47,8 @@ fn put_lssbs(alloc: Global, service: &Service, text: &mut Bytes) -> Result<(), O
 fn put_service(alloc: Global, service: &Service, text: &mut Bytes) -> Result<(), OutOfMemory>
     ensures { OnOk result (text.new ≡ text.old ++ service_lines service.now) }
 {
-    text.append(service_line(alloc, service)?.as_slice())?;
-    text.append(kb_line(alloc, service)?.as_slice())?;
+    put_service_line(alloc, service, text)?;
+    put_kb_line(alloc, service, text)?;
     put_lssbs(alloc, service, text)
 }
 
@@ -64,7 +65,7 @@ fn put_jobs(alloc: Global, rows: &[Job], text: &mut Bytes) -> Result<(), OutOfMe
     ensures { OnOk result (text.new ≡ text.old ++ flat_map job_line rows.now) }
 {
     for row in rows {
-        text.append(job_line(alloc, row)?.as_slice())?;
+        put_job_line(alloc, row, text)?;
     }
     Ok(())
 }
@@ -73,9 +74,22 @@ fn put_shown(alloc: Global, rows: &[(Name, JobValue)], text: &mut Bytes) -> Resu
     ensures { OnOk result (text.new ≡ text.old ++ flat_map shown_line rows.now) }
 {
     for row in rows {
-        text.append(shown_line(alloc, row)?.as_slice())?;
+        put_shown_line(alloc, row, text)?;
     }
     Ok(())
+}
+
+fn put_tables(alloc: Global, tables: &Tables, text: &mut Bytes) -> Result<(), OutOfMemory>
+    ensures { OnOk result (text.new ≡ text.old ++ listing tables.now) }
+{
+    put_number_line(alloc, b"CLOCK", tables.clock(), text)?;
+    put_number_line(alloc, b"NEXT", tables.next_job(), text)?;
+    put_gssbs(alloc, tables.gssbs(), text)?;
+    put_blocks(alloc, b"TLS", tables.tlss(), text)?;
+    put_blocks(alloc, b"ULS", tables.ulss(), text)?;
+    put_services(alloc, tables.services(), text)?;
+    put_jobs(alloc, tables.jobs(), text)?;
+    put_shown(alloc, tables.shown(), text)
 }
 
 /// The lines of tables, as `show` prints them: the clock, the next job number, and the rows in the order of kinds and
@@ -83,13 +97,7 @@ fn put_shown(alloc: Global, rows: &[(Name, JobValue)], text: &mut Bytes) -> Resu
 pub fn table_lines(alloc: Global, tables: &Tables) -> Result<Bytes, OutOfMemory>
     ensures { IfOk result (λ text. text ≡ listing tables.now) }
 {
-    let mut text = number_line(alloc, b"CLOCK", tables.clock())?;
-    text.append(number_line(alloc, b"NEXT", tables.next_job())?.as_slice())?;
-    put_gssbs(alloc, tables.gssbs(), &mut text)?;
-    put_blocks(alloc, b"TLS", tables.tlss(), &mut text)?;
-    put_blocks(alloc, b"ULS", tables.ulss(), &mut text)?;
-    put_services(alloc, tables.services(), &mut text)?;
-    put_jobs(alloc, tables.jobs(), &mut text)?;
-    put_shown(alloc, tables.shown(), &mut text)?;
+    let mut text = Bytes::new(alloc);
+    put_tables(alloc, tables, &mut text)?;
     Ok(text)
 }

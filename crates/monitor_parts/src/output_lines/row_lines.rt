@@ -1,46 +1,56 @@
 //! The lines of a row of each kind.
-ghost use Rattle.std.specs.Prelude.{◌≡◌, ◌∷◌, ◌++◌, [], codes, decimal, OnOk, IfOk};
+ghost use Rattle.std.specs.Prelude.{◌≡◌, ◌∷◌, ◌++◌, [], codes, decimal, OnOk};
 ghost use Rattle.kd_base.specs.Text.{escaped};
 ghost use Rattle.abstract_monitor.specs.Listing.{spaced, gssb_line, block_line, state_text, last_text, lssb_line, target_words, job_line, shown_line};
 ghost use Rattle.monitor_parts.specs.Parts.{number_line, service_line, kb_line};
 
-use crate::output_lines::words::{ended, put_escaped, put_number, put_owner, put_word};
+use crate::output_lines::words::{put_escaped, put_number, put_owner, put_word};
 use kd_base::{Bytes, Name, OutOfMemory};
 use kdcs_types::{Job, JobValue, Service, Target};
 use std::alloc::Global;
 
-/// A number of the tables: the clock, or the next job number.
-pub(crate) fn number_line(alloc: Global, kind: &[u8], number: u64) -> Result<Bytes, OutOfMemory>
-    ensures { IfOk result (λ out. out ≡ number_line kind.now number) }
+/// Puts a number of the tables: the clock, or the next job number.
+pub(crate) fn put_number_line(
+    alloc: Global,
+    kind: &[u8],
+    number: u64,
+    text: &mut Bytes,
+) -> Result<(), OutOfMemory>
+    ensures { OnOk result (text.new ≡ text.old ++ number_line kind.now number) }
 {
-    let mut out = Bytes::from_slice(alloc, kind)?;
-    put_number(alloc, &mut out, number)?;
-    ended(out)
+    text.append(kind)?;
+    put_number(alloc, text, number)?;
+    text.push(b'\n')
 }
 
-/// A GSSB: its name and its content.
-pub(crate) fn gssb_line(alloc: Global, row: &(Name, Bytes)) -> Result<Bytes, OutOfMemory>
-    ensures { IfOk result (λ out. out ≡ gssb_line row.now) }
+/// Puts a GSSB: its name and its content.
+pub(crate) fn put_gssb_line(
+    alloc: Global,
+    row: &(Name, Bytes),
+    text: &mut Bytes,
+) -> Result<(), OutOfMemory>
+    ensures { OnOk result (text.new ≡ text.old ++ gssb_line row.now) }
 {
-    let mut out = Bytes::from_slice(alloc, b"GSSB")?;
-    put_word(&mut out, row.0.as_slice())?;
-    put_escaped(alloc, &mut out, row.1.as_slice())?;
-    ended(out)
+    text.append(b"GSSB")?;
+    put_word(text, row.0.as_slice())?;
+    put_escaped(alloc, text, row.1.as_slice())?;
+    text.push(b'\n')
 }
 
-/// A block of TLS or ULS: its name, its LTERM or user, and its content.
-pub(crate) fn block_line(
+/// Puts a block of TLS or ULS: its name, its LTERM or user, and its content.
+pub(crate) fn put_block_line(
     alloc: Global,
     kind: &[u8],
     row: &(Name, Name, Bytes),
-) -> Result<Bytes, OutOfMemory>
-    ensures { IfOk result (λ out. out ≡ block_line kind.now row.now) }
+    text: &mut Bytes,
+) -> Result<(), OutOfMemory>
+    ensures { OnOk result (text.new ≡ text.old ++ block_line kind.now row.now) }
 {
-    let mut out = Bytes::from_slice(alloc, kind)?;
-    put_word(&mut out, row.0.as_slice())?;
-    put_word(&mut out, row.1.as_slice())?;
-    put_escaped(alloc, &mut out, row.2.as_slice())?;
-    ended(out)
+    text.append(kind)?;
+    put_word(text, row.0.as_slice())?;
+    put_word(text, row.1.as_slice())?;
+    put_escaped(alloc, text, row.2.as_slice())?;
+    text.push(b'\n')
 }
 
 fn state_text(awaits: bool) -> &'static [u8]
@@ -59,42 +69,51 @@ fn put_last(alloc: Global, out: &mut Bytes, last: &Option<Bytes>) -> Result<(), 
     }
 }
 
-/// A service: its owner, its first and next TAC, whether it awaits an input, and its last dialogue message.
-pub(crate) fn service_line(alloc: Global, service: &Service) -> Result<Bytes, OutOfMemory>
-    ensures { IfOk result (λ out. out ≡ service_line service.now) }
+/// Puts a service: its owner, its first and next TAC, whether it awaits an input, and its last dialogue message.
+pub(crate) fn put_service_line(
+    alloc: Global,
+    service: &Service,
+    text: &mut Bytes,
+) -> Result<(), OutOfMemory>
+    ensures { OnOk result (text.new ≡ text.old ++ service_line service.now) }
 {
-    let mut out = Bytes::from_slice(alloc, b"SERVICE")?;
-    put_owner(alloc, &mut out, service.id)?;
-    put_word(&mut out, service.first.as_slice())?;
-    put_word(&mut out, service.next.as_slice())?;
-    put_word(&mut out, state_text(service.awaits))?;
-    put_last(alloc, &mut out, &service.last)?;
-    ended(out)
+    text.append(b"SERVICE")?;
+    put_owner(alloc, text, service.id)?;
+    put_word(text, service.first.as_slice())?;
+    put_word(text, service.next.as_slice())?;
+    put_word(text, state_text(service.awaits))?;
+    put_last(alloc, text, &service.last)?;
+    text.push(b'\n')
 }
 
-/// The KB of a service.
-pub(crate) fn kb_line(alloc: Global, service: &Service) -> Result<Bytes, OutOfMemory>
-    ensures { IfOk result (λ out. out ≡ kb_line service.now) }
+/// Puts the KB of a service.
+pub(crate) fn put_kb_line(
+    alloc: Global,
+    service: &Service,
+    text: &mut Bytes,
+) -> Result<(), OutOfMemory>
+    ensures { OnOk result (text.new ≡ text.old ++ kb_line service.now) }
 {
-    let mut out = Bytes::from_slice(alloc, b"KB")?;
-    put_owner(alloc, &mut out, service.id)?;
-    put_escaped(alloc, &mut out, service.kb.as_slice())?;
-    ended(out)
+    text.append(b"KB")?;
+    put_owner(alloc, text, service.id)?;
+    put_escaped(alloc, text, service.kb.as_slice())?;
+    text.push(b'\n')
 }
 
-/// An LSSB of a service.
-pub(crate) fn lssb_line(
+/// Puts an LSSB of a service.
+pub(crate) fn put_lssb_line(
     alloc: Global,
     service: &Service,
     lssb: &(Name, Bytes),
-) -> Result<Bytes, OutOfMemory>
-    ensures { IfOk result (λ out. out ≡ lssb_line service.now lssb.now) }
+    text: &mut Bytes,
+) -> Result<(), OutOfMemory>
+    ensures { OnOk result (text.new ≡ text.old ++ lssb_line service.now lssb.now) }
 {
-    let mut out = Bytes::from_slice(alloc, b"LSSB")?;
-    put_owner(alloc, &mut out, service.id)?;
-    put_word(&mut out, lssb.0.as_slice())?;
-    put_escaped(alloc, &mut out, lssb.1.as_slice())?;
-    ended(out)
+    text.append(b"LSSB")?;
+    put_owner(alloc, text, service.id)?;
+    put_word(text, lssb.0.as_slice())?;
+    put_escaped(alloc, text, lssb.1.as_slice())?;
+    text.push(b'\n')
 }
 
 // Puts `T` and a TAC, or `L` and an LTERM.
@@ -125,23 +144,27 @@ fn put_value(alloc: Global, out: &mut Bytes, value: &JobValue) -> Result<(), Out
     put_escaped(alloc, out, value.message.as_slice())
 }
 
-/// A job: its number, its target, when it is due, who made it and where, and its message.
-pub(crate) fn job_line(alloc: Global, job: &Job) -> Result<Bytes, OutOfMemory>
-    ensures { IfOk result (λ out. out ≡ job_line job.now) }
+/// Puts a job: its number, its target, when it is due, who made it and where, and its message.
+pub(crate) fn put_job_line(alloc: Global, job: &Job, text: &mut Bytes) -> Result<(), OutOfMemory>
+    ensures { OnOk result (text.new ≡ text.old ++ job_line job.now) }
 {
-    let mut out = Bytes::from_slice(alloc, b"JOB")?;
-    put_number(alloc, &mut out, job.number)?;
-    put_target(&mut out, job.value.to)?;
-    put_value(alloc, &mut out, &job.value)?;
-    ended(out)
+    text.append(b"JOB")?;
+    put_number(alloc, text, job.number)?;
+    put_target(text, job.value.to)?;
+    put_value(alloc, text, &job.value)?;
+    text.push(b'\n')
 }
 
-/// The message that an LTERM shows.
-pub(crate) fn shown_line(alloc: Global, row: &(Name, JobValue)) -> Result<Bytes, OutOfMemory>
-    ensures { IfOk result (λ out. out ≡ shown_line row.now) }
+/// Puts the message that an LTERM shows.
+pub(crate) fn put_shown_line(
+    alloc: Global,
+    row: &(Name, JobValue),
+    text: &mut Bytes,
+) -> Result<(), OutOfMemory>
+    ensures { OnOk result (text.new ≡ text.old ++ shown_line row.now) }
 {
-    let mut out = Bytes::from_slice(alloc, b"SHOWN")?;
-    put_word(&mut out, row.0.as_slice())?;
-    put_escaped(alloc, &mut out, row.1.message.as_slice())?;
-    ended(out)
+    text.append(b"SHOWN")?;
+    put_word(text, row.0.as_slice())?;
+    put_escaped(alloc, text, row.1.message.as_slice())?;
+    text.push(b'\n')
 }

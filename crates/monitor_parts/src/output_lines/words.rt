@@ -1,7 +1,7 @@
 //! Words of a line, each after a space.
-ghost use Rattle.std.specs.Prelude.{◌≡◌, ◌∷◌, ◌++◌, decimal, IfOk, OnOk};
+ghost use Rattle.std.specs.Prelude.{◌≡◌, ◌∷◌, ◌++◌, decimal, OnOk};
 ghost use Rattle.kd_base.specs.Text.{escaped};
-ghost use Rattle.abstract_monitor.specs.Lines.{line, owner_text};
+ghost use Rattle.abstract_monitor.specs.Lines.{owner_text};
 
 use crate::output_lines::event_lines::owner_text;
 use kd_base::{Bytes, OutOfMemory, escape};
@@ -38,12 +38,4 @@ pub(crate) fn put_owner(alloc: Global, out: &mut Bytes, id: ServiceId) -> Result
 {
     let owner = owner_text(alloc, id)?;
     put_word(out, owner.as_slice())
-}
-
-/// Ends the line.
-pub(crate) fn ended(mut text: Bytes) -> Result<Bytes, OutOfMemory>
-    ensures { IfOk result (λ out. out ≡ line text) }
-{
-    text.push(b'\n')?;
-    Ok(text)
 }
