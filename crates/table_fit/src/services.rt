@@ -1,6 +1,6 @@
 //! Which services suit.
-ghost use Rattle.std.specs.{Prelude.{◌≡◌, length, nat_le, sum_by}, List.{list_all}};
-ghost use Rattle.abstract_monitor.specs.{Bytes.{Bytes as Content}, Endings.{is_asynchronous, is_durable}};
+ghost use Rattle.std.specs.{Prelude.{◌≡◌, ◌&&◌, length, nat_le, sum_by}, FinMap.{is_sorted}, List.{list_all}};
+ghost use Rattle.abstract_monitor.specs.{Bytes.{Bytes as Content, bytes_cmp}, Endings.{is_asynchronous, is_durable}};
 ghost use Rattle.laws_of_states.specs.Suits.{awaits_rightly, fits_content, last_fits, lterm_suits, owner_suits, service_suits};
 ghost use Rattle.kdcs_types.specs.declared.service.Service.{Service as Row};
 ghost use Rattle.table_fit.specs.Charging.{names_suit};
@@ -49,6 +49,13 @@ fn lssbs_fit(lssbs: &[(Name, Bytes)]) -> bool
     lssbs.iter().all(|lssb| fits_content(&lssb.1))
 }
 
+// There are at most so many LSSBs, in order.
+fn lssbs_suit(lssbs: &[(Name, Bytes)], most: u32) -> bool
+    ensures { result ≡ (nat_le (length lssbs.now) most && is_sorted bytes_cmp lssbs.now && list_all (λ (l : Content × Content). fits_content l.1) lssbs.now) }
+{
+    lssbs.len() as u64 <= u64::from(most) && ascend(lssbs) && lssbs_fit(lssbs)
+}
+
 // An awaiting service has a last message and no handed part.
 fn awaits_rightly(service: &Service) -> bool
     ensures { result ≡ awaits_rightly service.now service.now.awaits }
@@ -79,6 +86,12 @@ fn parts_fit(parts: &[Bytes], nb: u32) -> bool
     true
 }
 
+fn handed_suits(handed: &[Bytes], nb: u32) -> bool
+    ensures { result ≡ (nat_le (length handed.now) 16 && nat_le (sum_by length handed.now) nb) }
+{
+    handed.len() <= MOST_PARTS && parts_fit(handed, nb)
+}
+
 // User and LTERM are declared, it is of its owner, and first and next TAC have its kind.
 fn names_suit(generation: &Generation, service: &Service) -> bool
     ensures { result ≡ names_suit generation.now service.now }
@@ -97,17 +110,12 @@ pub fn service_suits(generation: &Generation, service: &Service) -> bool
     ensures { result ≡ service_suits generation.now service.now }
 {
     let limits = generation.max();
-    let lssbs = service.lssbs.as_slice();
-    let handed = service.handed.as_slice();
     names_suit(generation, service)
         && service.kb.len() as u64 == u64::from(limits.kb)
-        && lssbs.len() as u64 <= u64::from(limits.lssbs)
-        && ascend(lssbs)
-        && lssbs_fit(lssbs)
+        && lssbs_suit(service.lssbs.as_slice(), limits.lssbs)
         && awaits_rightly(service)
         && last_fits(generation, &service.last)
-        && handed.len() <= MOST_PARTS
-        && parts_fit(handed, limits.nb)
+        && handed_suits(service.handed.as_slice(), limits.nb)
 }
 
 /// Each service's row suits, whether it outlives a stop or not.
