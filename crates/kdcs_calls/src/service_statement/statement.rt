@@ -69,7 +69,11 @@ fn next_statement(
     };
     match step_unit(outside.alloc, unit, transaction)? {
         Stepped::Plain => Ok(Happened::Went),
-        Stepped::Asks(call) => perform_call(outside, unit, locks, transaction, &call),
+        Stepped::Asks(call) => {
+            let happened = perform_call(outside, unit, locks, transaction, &call);
+            drop(call);
+            happened
+        }
         Stepped::Ends(cause) => Ok(Happened::Breaks(Ending::Broken(cause))),
     }
 }

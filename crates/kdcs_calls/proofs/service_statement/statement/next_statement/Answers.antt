@@ -14,14 +14,14 @@ unreachable-requires c =
     true≢false (sym (opens_have_units (applied o.generation.now o.units.now) c.args.transaction.now.id (transaction_of c.args.transaction.now) c.requires.application c.requires.can)
     ∙ ap is_some (sym (c.in_default.ensures.unit ∙ unit_found o.generation.now o.units.now c.args.transaction.now.current c.requires.fit)))
 
-pub perform_call-requires-clause-stands : goal.perform_call-requires-clause-stands
-perform_call-requires-clause-stands c =
+pub perform_call-happened-requires-clause-stands : goal.perform_call-happened-requires-clause-stands
+perform_call-happened-requires-clause-stands c =
     let o = c.args.outside.now in
     asks_stands c.args.transaction.now c.step_unit.new.transaction c.in_ok-step_unit.field-0 c.in_ok-step_unit.ensures.leaves (applied o.generation.now o.units.now) c.in-Some.unit.now c.in-Asks.call c.in-Asks.is
     (record { application = c.requires.application; can = c.requires.can; in_unit = sym (c.in-Some.ensures.unit ∙ unit_found o.generation.now o.units.now c.args.transaction.now.current c.requires.fit) })
 
-pub perform_call-requires-clause-contents : goal.perform_call-requires-clause-contents
-perform_call-requires-clause-contents c = contents_fit c.args.outside.now.generation.now c.args.outside.now.tables.now c.args.transaction.now.id c.requires.sound
+pub perform_call-happened-requires-clause-contents : goal.perform_call-happened-requires-clause-contents
+perform_call-happened-requires-clause-contents c = contents_fit c.args.outside.now.generation.now c.args.outside.now.tables.now c.args.transaction.now.id c.requires.sound
 
 pub returns-in-Plain-clause-exact : goal.returns-in-Plain-clause-exact
 returns-in-Plain-clause-exact c =
@@ -39,13 +39,13 @@ pub returns-in-Asks-clause-exact : goal.returns-in-Asks-clause-exact
 returns-in-Asks-clause-exact c =
     let o = c.args.outside.now in
     asks_exact (applied o.generation.now o.units.now) o.tables.now c.args.locks.now c.args.transaction.now c.step_unit.new.transaction c.in-Some.unit.now (c.in-Some.ensures.unit ∙ unit_found o.generation.now o.units.now c.args.transaction.now.current c.requires.fit) c.in_ok-step_unit.field-0
-    c.in_ok-step_unit.ensures.meaning c.in_ok-step_unit.ensures.leaves c.in-Asks.call c.in-Asks.is (transaction_of c.perform_call.new.transaction) c.perform_call.result c.perform_call.ensures.exact
+    c.in_ok-step_unit.ensures.meaning c.in_ok-step_unit.ensures.leaves c.in-Asks.call c.in-Asks.is (transaction_of c.perform_call-happened.new.transaction) c.perform_call-happened.result c.perform_call-happened.ensures.exact
 
 pub returns-in-Asks-clause-waits : goal.returns-in-Asks-clause-waits
 returns-in-Asks-clause-waits c =
     let o = c.args.outside.now in
     asks_waits (applied o.generation.now o.units.now) o.tables.now c.args.locks.now c.args.transaction.now c.step_unit.new.transaction c.in-Some.unit.now (c.in-Some.ensures.unit ∙ unit_found o.generation.now o.units.now c.args.transaction.now.current c.requires.fit) c.in_ok-step_unit.field-0
-    c.in_ok-step_unit.ensures.meaning c.in_ok-step_unit.ensures.leaves c.in-Asks.call c.in-Asks.is c.perform_call.new.locks c.perform_call.result c.perform_call.ensures.waits
+    c.in_ok-step_unit.ensures.meaning c.in_ok-step_unit.ensures.leaves c.in-Asks.call c.in-Asks.is c.perform_call-happened.new.locks c.perform_call-happened.result c.perform_call-happened.ensures.waits
 
 pub returns-in-Ends-clause-exact : goal.returns-in-Ends-clause-exact
 returns-in-Ends-clause-exact c =
