@@ -229,7 +229,11 @@ pub(crate) fn next_statement(
     };
     match step_unit(outside.alloc, unit, transaction)? {
         Stepped::Plain => Ok(Happened::Went),
-        Stepped::Asks(call) => do_call(replay, unit, locks, transaction, &call),
+        Stepped::Asks(call) => {
+            let happened = do_call(replay, unit, locks, transaction, &call);
+            drop(call);
+            happened
+        }
         Stepped::Ends(cause) => Ok(Happened::Breaks(Ending::Broken(cause))),
     }
 }
