@@ -21,14 +21,14 @@ pub(crate) fn area_of_call(transaction: &OpenTransaction, call: &Call) -> Option
     ensures { result ≡ area_of_call (transaction_of transaction.now) call.now }
 {
     match call {
-        Call::SgetGb(name, _) | Call::SputGb(name, _) => Some(Area::Gssb(name_in(name)?)),
-        Call::SrelGb(name) | Call::UnlkGb(name) => Some(Area::Gssb(name_in(name)?)),
-        Call::SgetUs(name, _) => Some(Area::Uls(name_in(name)?, transaction.user)),
-        Call::SputUs(name, _) => Some(Area::Uls(name_in(name)?, transaction.user)),
-        Call::UnlkUs(name) => Some(Area::Uls(name_in(name)?, transaction.user)),
-        Call::Gtda(name, _) => Some(Area::Tls(name_in(name)?, transaction.lterm)),
-        Call::Ptda(name, _) => Some(Area::Tls(name_in(name)?, transaction.lterm)),
-        Call::UnlkDa(name) => Some(Area::Tls(name_in(name)?, transaction.lterm)),
+        Call::SgetGb(name, _) | Call::SputGb(name, _) | Call::SrelGb(name) | Call::UnlkGb(name) =>
+            Some(Area::Gssb(name_in(name)?)),
+        Call::SgetUs(name, _) | Call::SputUs(name, _) | Call::UnlkUs(name) => {
+            Some(Area::Uls(name_in(name)?, transaction.user))
+        }
+        Call::Gtda(name, _) | Call::Ptda(name, _) | Call::UnlkDa(name) => {
+            Some(Area::Tls(name_in(name)?, transaction.lterm))
+        }
         _ => None,
     }
 }

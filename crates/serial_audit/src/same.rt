@@ -1,10 +1,18 @@
 //! Whether changes are the same.
-ghost use Rattle.std.specs.{Prelude.{◌≡◌, ◌↔◌, IsTrue}, Cmp.Lexicographic.{pointwise}};
+ghost use Rattle.std.specs.{Prelude.{◌≡◌, ◌↔◌, ◌&&◌, IsTrue, bytes_eq}, Cmp.Lexicographic.{pointwise}};
 ghost use Rattle.kdcs_types.specs.Same.{row_eq};
 ghost use Rattle.serial_audit.specs.Same.{change_eq};
 
+use kd_base::{Bytes, Name};
 use kdcs_types::{Change, Changes, Ending, Row};
 use sync_points::{same_service, same_value};
+
+// Blocks of TLS or ULS: the name, the LTERM or user, and the content.
+fn same_block(a: (Name, Name), content: &Bytes, b: (Name, Name), other: &Bytes) -> bool
+    ensures { result ≡ (bytes_eq a.0 b.0 && (bytes_eq a.1 b.1 && bytes_eq content.now other.now)) }
+{
+    a.0 == b.0 && a.1 == b.1 && content == other
+}
 
 fn same_row(a: &Row, b: &Row) -> bool
     ensures { result ≡ row_eq a.now b.now }
@@ -12,10 +20,10 @@ fn same_row(a: &Row, b: &Row) -> bool
     match (a, b) {
         (Row::Gssb(name, content), Row::Gssb(other, bytes)) => name == other && content == bytes,
         (Row::Tls(block, lterm, content), Row::Tls(other, owner, bytes)) => {
-            block == other && lterm == owner && content == bytes
+            same_block((*block, *lterm), content, (*other, *owner), bytes)
         }
         (Row::Uls(block, user, content), Row::Uls(other, owner, bytes)) => {
-            block == other && user == owner && content == bytes
+            same_block((*block, *user), content, (*other, *owner), bytes)
         }
         (Row::Service(id, service), Row::Service(other, row)) => {
             id == other && same_service(service, row)
