@@ -3,16 +3,13 @@ ghost use Rattle.std.specs.Prelude.{◌≡◌};
 ghost use Rattle.service_parts.specs.declared.message_area.error.PutError.TheVariants.{Memory};
 
 use kd_base::OutOfMemory;
-use thiserror::Error;
 
 /// Why a part is not put. The area is as it was.
-#[derive(Clone, Copy, Debug, PartialEq, Eq, Error)]
+#[derive(Clone, Copy)]
 pub enum PutError {
     /// E12: more than 16 parts, or more than NB bytes together.
-    #[error("a message of more than 16 parts or more than NB bytes")]
     TooLong,
     /// Memory ran out.
-    #[error("out of memory")]
     Memory,
 }
 
