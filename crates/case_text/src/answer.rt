@@ -1,19 +1,22 @@
 //! What a call answered, sent and left.
 
-use crate::escapes::unescaped;
+use crate::escapes::unescape;
+use crate::failing::Try;
 use crate::files::Files;
-use crate::line::Line;
+use crate::line::Said;
+use crate::wrong::Wrong;
 use kd_base::{Bytes, OutOfMemory};
 use kd_device::{Half, MemTwin};
 use std::alloc::Global;
-use std::collections::VecDeque;
 
-/// What a call answered, the lines sent that no line of the case has named yet, and the files that were left.
+/// What a call answered and sent, and the files that were left.
 pub struct Answer {
-    /// The try of the call, where it had several.
-    at: String,
+    at: Try,
     status: u8,
-    lines: VecDeque<Bytes>,
+    /// The lines that were sent.
+    sent: Vec<u8>,
+    /// So many bytes of them are lines that the case has named.
+    named: usize,
     files: Files,
     first_same: bool,
     second_same: bool,
@@ -24,64 +27,66 @@ impl Drop for Answer {
         let Answer {
             at,
             status,
-            lines,
+            sent,
+            named,
             files,
             first_same,
             second_same,
         } = self;
         let _ = at;
         let _ = status;
-        let _ = lines;
+        let _ = sent;
+        let _ = named;
         let _ = files;
         let _ = first_same;
         let _ = second_same;
     }
 }
 
-/// The lines of these bytes. One that has no end says so.
-fn lines_of(alloc: Global, sent: &[u8]) -> Result<VecDeque<Bytes>, OutOfMemory> {
-    let mut lines = VecDeque::new(alloc);
-    let mut line = Bytes::new(alloc);
-    for byte in sent {
-        if *byte == b'\n' {
-            lines.push_back(line)?;
-            line = Bytes::new(alloc);
-        } else {
-            line.push(*byte)?;
+// The lines of these bytes. One that has no end says so.
+fn append_lines(lines: &mut Vec<u8>, sent: &[u8]) -> Result<(), OutOfMemory> {
+    lines.extend_from_slice(sent)?;
+    if !sent.is_empty() && !sent.ends_with(b"\n") {
+        lines.extend_from_slice(b" (without an end)\n")?;
+    }
+    Ok(())
+}
+
+// The first of these lines, without its end.
+fn first_line(lines: &[u8]) -> &[u8] {
+    for len in 0..lines.len() {
+        if lines[len] == b'\n' {
+            return &lines[..len];
         }
     }
-    if !line.is_empty() {
-        line.append(b" (without an end)")?;
-        lines.push_back(line)?;
-    }
-    Ok(lines)
+    lines
 }
 
-fn printed(line: &Bytes) -> &str {
-    str::from_utf8(line.as_slice()).unwrap_or("bytes that are no text")
-}
-
-fn complaint(alloc: Global, text: &str) -> Result<Option<String>, OutOfMemory> {
-    Ok(Some(String::from_str(alloc, text)?))
+fn printed(line: &[u8]) -> &str {
+    str::from_utf8(line).unwrap_or("bytes that are no text")
 }
 
 impl Answer {
-    /// What a call over the files `before` answered, sent and left, at this try.
-    pub fn new(
-        alloc: Global,
-        at: String,
-        status: u8,
-        before: &Files,
-        twin: &MemTwin,
-    ) -> Result<Answer, OutOfMemory> {
-        Ok(Answer {
+    /// A try of a call with this status, for which what it sent and left is still to be taken.
+    pub fn new(alloc: Global, at: Try, status: u8) -> Answer {
+        Answer {
             at,
             status,
-            lines: lines_of(alloc, twin.sent())?,
-            files: Files::of(alloc, twin)?,
-            first_same: before.file(Half::First).as_slice() == twin.holds(Half::First),
-            second_same: before.file(Half::Second).as_slice() == twin.holds(Half::Second),
-        })
+            sent: Vec::new(alloc),
+            named: 0,
+            files: Files::empty(alloc),
+            first_same: false,
+            second_same: false,
+        }
+    }
+
+    /// Takes what the call over the files `before` sent and left.
+    pub fn take(&mut self, before: &Files, twin: &MemTwin) -> Result<(), OutOfMemory> {
+        append_lines(&mut self.sent, twin.sent())?;
+        self.files.take_from(twin)?;
+        self.first_same = before.file(Half::First).as_slice() == twin.holds(Half::First);
+        self.second_same = before.file(Half::Second).as_slice() == twin.holds(Half::Second);
+        Ok(())
     }
 
     /// The files that were left.
@@ -89,35 +94,32 @@ impl Answer {
         &self.files
     }
 
-    /// The try of the call, where it had several.
-    pub fn at(&self) -> &str {
-        self.at.as_str()
+    pub fn at(&self) -> Try {
+        self.at
+    }
+
+    fn next_sent(&self) -> Option<&[u8]> {
+        let left = self.sent.get(self.named..)?;
+        if left.is_empty() {
+            return None;
+        }
+        Some(first_line(left))
     }
 
     /// The next line that no line of the case has named.
     pub fn next_line(&self) -> Option<&str> {
-        Some(printed(self.lines.front()?))
+        Some(printed(self.next_sent()?))
     }
 
-    fn judge_sent(&mut self, alloc: Global, wanted: &str) -> Result<Option<String>, OutOfMemory> {
-        match self.lines.pop_front() {
-            Some(line) if line.as_slice() == wanted.as_bytes() => Ok(None),
-            Some(line) => complaint(alloc, printed(&line)),
-            None => complaint(alloc, "no such line was sent"),
+    fn judge_sent(&mut self, wanted: &str, wrong: &mut Wrong) -> Result<(), OutOfMemory> {
+        let Some(line) = self.next_sent() else {
+            return wrong.say_at("no such line was sent", self.at);
+        };
+        if line != wanted.as_bytes() {
+            wrong.say_at(printed(line), self.at)?;
         }
-    }
-
-    fn judge_length(
-        &self,
-        alloc: Global,
-        half: Half,
-        wanted: u64,
-    ) -> Result<Option<String>, OutOfMemory> {
-        let length = self.files.file(half).len() as u64;
-        if length == wanted {
-            return Ok(None);
-        }
-        Ok(Some(format!(in alloc; "{length}")?))
+        self.named = self.named.saturating_add(line.len()).saturating_add(1);
+        Ok(())
     }
 
     fn judge_bytes(
@@ -126,36 +128,49 @@ impl Answer {
         half: Half,
         at: u64,
         wanted: &str,
-    ) -> Result<Option<String>, OutOfMemory> {
+        wrong: &mut Wrong,
+    ) -> Result<(), OutOfMemory> {
         let there = self.files.file(half).get(at as usize..).unwrap_or(&[]);
-        match unescaped(alloc, wanted, 0)? {
-            Some(bytes) if there.starts_with(bytes.as_slice()) => Ok(None),
-            Some(_) => complaint(alloc, "other bytes"),
-            None => complaint(alloc, "no such bytes"),
+        let mut bytes = Bytes::new(alloc);
+        match unescape(alloc, wanted, 0, &mut bytes) {
+            Ok(true) if there.starts_with(bytes.as_slice()) => Ok(()),
+            Ok(true) => wrong.say_at("other bytes", self.at),
+            Ok(false) => wrong.say_at("no such bytes", self.at),
+            Err(memory) => Err(memory),
         }
     }
 
-    fn judge_same(&self, alloc: Global, half: Half) -> Result<Option<String>, OutOfMemory> {
-        let same = match half {
+    fn is_same(&self, half: Half) -> bool {
+        match half {
             Half::First => self.first_same,
             Half::Second => self.second_same,
-        };
-        if same {
-            return Ok(None);
         }
-        complaint(alloc, "the KDCFILE has changed")
     }
 
-    /// What the call did otherwise than this line says. A line that was sent is then done with.
-    pub fn judge(&mut self, alloc: Global, line: Line<'_>) -> Result<Option<String>, OutOfMemory> {
-        match line {
-            Line::Status(wanted) if wanted == self.status => Ok(None),
-            Line::Status(_) => Ok(Some(format!(in alloc; "{}", self.status)?)),
-            Line::Sent(wanted) => self.judge_sent(alloc, wanted),
-            Line::Length(half, wanted) => self.judge_length(alloc, half, wanted),
-            Line::Holds(half, at, wanted) => self.judge_bytes(alloc, half, at, wanted),
-            Line::Same(half) => self.judge_same(alloc, half),
-            _ => complaint(alloc, "no line about an answer"),
+    // Says the number that was found, but where it is the one that was wanted.
+    fn judge_number(&self, found: u64, wanted: u64, wrong: &mut Wrong) -> Result<(), OutOfMemory> {
+        if found == wanted {
+            return Ok(());
+        }
+        wrong.say_number(found, self.at)
+    }
+
+    /// Says what the call did otherwise than this. A line that was sent is then done with.
+    pub fn judge(
+        &mut self,
+        alloc: Global,
+        said: Said<'_>,
+        wrong: &mut Wrong,
+    ) -> Result<(), OutOfMemory> {
+        match said {
+            Said::Status(wanted) => self.judge_number(self.status as u64, wanted as u64, wrong),
+            Said::Sent(wanted) => self.judge_sent(wanted, wrong),
+            Said::Length(half, wanted) => {
+                self.judge_number(self.files.file(half).len() as u64, wanted, wrong)
+            }
+            Said::Holds(half, at, wanted) => self.judge_bytes(alloc, half, at, wanted, wrong),
+            Said::Same(half) if self.is_same(half) => Ok(()),
+            Said::Same(_) => wrong.say_at("the KDCFILE has changed", self.at),
         }
     }
 }

@@ -1,6 +1,6 @@
 //! The lines of texts of cases, one after another.
 
-use crate::line::Line;
+use crate::line::split;
 use crate::program::Program;
 use crate::stage::Stage;
 use kd_base::OutOfMemory;
@@ -60,31 +60,25 @@ impl Cases {
         text: &str,
     ) -> Result<Option<String>, OutOfMemory> {
         self.number = self.number.saturating_add(1);
-        let line = Line::of(text);
-        let found = self.obey::<P>(alloc, line)?;
-        let said = self.said(alloc, text, found)?;
-        if let Some(Line::Case(title)) = line {
-            self.title = String::from_str(alloc, title)?;
-        }
+        self.stage.obey::<P>(alloc, text)?;
+        let said = self.said(alloc, text)?;
+        self.begin_case(text)?;
         Ok(said)
     }
 
-    /// Does what the line says, and answers what is wrong.
-    fn obey<P: Program>(
-        &mut self,
-        alloc: Global,
-        line: Option<Line<'_>>,
-    ) -> Result<Option<String>, OutOfMemory> {
-        match line {
-            Some(line) => self.stage.obey::<P>(alloc, line),
-            None => Ok(Some(String::from_str(alloc, "no such line")?)),
+    // Takes the title, where the line is one that begins a case.
+    fn begin_case(&mut self, text: &str) -> Result<(), OutOfMemory> {
+        if let ("case", title) = split(text) {
+            self.title.clear();
+            self.title.push_str(title)?;
         }
+        Ok(())
     }
 
     /// Ends a text. Where its last call did more than was said, what is to be printed.
     pub fn end(&mut self, alloc: Global) -> Result<Option<String>, OutOfMemory> {
-        let found = self.stage.finish_call(alloc)?;
-        self.said(alloc, "the end", found)
+        self.stage.end()?;
+        self.said(alloc, "the end")
     }
 
     /// How many lines of the text that has ended were wrong. The next text begins with line 1.
@@ -95,14 +89,9 @@ impl Cases {
         wrong
     }
 
-    /// What is to be printed where something was found.
-    fn said(
-        &mut self,
-        alloc: Global,
-        text: &str,
-        found: Option<String>,
-    ) -> Result<Option<String>, OutOfMemory> {
-        let Some(found) = found else {
+    // What is to be printed where something is wrong.
+    fn said(&mut self, alloc: Global, text: &str) -> Result<Option<String>, OutOfMemory> {
+        let Some(found) = self.stage.wrong() else {
             return Ok(None);
         };
         self.wrong = self.wrong.saturating_add(1);

@@ -1,5 +1,4 @@
 //! The files that a call is made over.
-ghost use Rattle.std.specs.Prelude.{length, ◌≤◌};
 
 use kd_base::{Bytes, OutOfMemory};
 use kd_device::{CallKind, Half, MemTwin};
@@ -20,44 +19,32 @@ impl Files {
         }
     }
 
-    /// Those that a twin has.
-    pub fn of(alloc: Global, twin: &MemTwin) -> Result<Files, OutOfMemory> {
-        Ok(Files {
-            first: twin.holds(Half::First).to_vec(alloc)?,
-            second: twin.holds(Half::Second).to_vec(alloc)?,
-        })
+    /// They are those that a twin has.
+    pub fn take_from(&mut self, twin: &MemTwin) -> Result<(), OutOfMemory> {
+        self.take(twin.holds(Half::First), twin.holds(Half::Second))
     }
 
-    /// Those that a stop of the twin after so many calls, with this choice, leaves.
-    pub fn after_stop(
-        alloc: Global,
-        twin: &MemTwin,
-        stop: u64,
-        choice: u64,
-    ) -> Result<Files, OutOfMemory>
-        requires { stop ≤ length twin.now.recording.events }
-    {
-        let stopped = twin.after_stop(alloc, stop, choice)?;
-        Files::of(alloc, &stopped)
+    /// They are as these.
+    pub fn copy(&mut self, files: &Files) -> Result<(), OutOfMemory> {
+        self.take(&files.first, &files.second)
     }
 
-    pub fn copied(&self) -> Result<Files, OutOfMemory> {
-        Ok(Files {
-            first: self.first.clone()?,
-            second: self.second.clone()?,
-        })
+    fn take(&mut self, first: &[u8], second: &[u8]) -> Result<(), OutOfMemory> {
+        self.clear();
+        self.first.extend_from_slice(first)?;
+        self.second.extend_from_slice(second)?;
+        Ok(())
     }
 
     /// A twin with these files, of which these calls fail.
     pub fn twin(
         &self,
         alloc: Global,
-        failing: Vec<(Half, CallKind, u64)>,
-    ) -> Result<Box<MemTwin>, OutOfMemory> {
+        failing: &Vec<(Half, CallKind, u64)>,
+    ) -> Result<MemTwin, OutOfMemory> {
         let first = Bytes::from_slice(alloc, &self.first)?;
         let second = Bytes::from_slice(alloc, &self.second)?;
-        let twin = MemTwin::new(alloc, first, second, failing)?;
-        Ok(Box::new(alloc, twin)?)
+        MemTwin::new(alloc, first, second, failing.clone()?)
     }
 
     pub fn file(&self, half: Half) -> &Vec<u8> {

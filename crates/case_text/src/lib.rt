@@ -7,14 +7,15 @@
 #![tactic(auto)]
 
 mod answer;
-mod call;
 mod cases;
 mod escapes;
+mod failing;
 mod files;
 mod line;
 mod program;
 mod stage;
 mod texts;
+mod wrong;
 
 pub use cases::Cases;
 pub use program::Program;

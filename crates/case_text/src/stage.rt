@@ -1,19 +1,20 @@
 //! What the lines of a text of cases have said so far.
 
 use crate::answer::Answer;
-use crate::call::{Call, Tries, failing_name};
-use crate::escapes::unescaped;
+use crate::escapes::unescape;
+use crate::failing::{Failing, Failures, Tries, Try};
 use crate::files::Files;
-use crate::line::{Failing, Line};
+use crate::line::{Said, failing_and_text, number, number_and_text, numbers, split};
 use crate::program::Program;
-use crate::texts::{Texts, copied, words_of};
-use kd_base::OutOfMemory;
-use kd_device::{CallKind, Half, MemTwin};
+use crate::texts::{Texts, append_words};
+use crate::wrong::Wrong;
+use kd_base::{Bytes, OutOfMemory};
+use kd_device::{Half, MemRoom, MemTwin};
 use std::alloc::Global;
 use std::mem;
 
-/// What is wrong, where something is.
-type Judged = Result<Option<String>, OutOfMemory>;
+/// Whether a line was done, which fails for want of memory alone. What is wrong with it is said to the `Wrong`.
+type Done = Result<(), OutOfMemory>;
 
 /// The choices that each stop is tried with: the old bytes of each write that is not synced, the new ones, and five
 /// mixtures.
@@ -22,11 +23,12 @@ const CHOICES: [u64; 7] = [0, 1, 2, 3, 5, 6, 7];
 /// The texts, the files and the failing calls of a case, and what its last call did.
 pub struct Stage {
     texts: Texts,
-    failing: Vec<(Half, CallKind, u64)>,
-    failing_texts: Vec<u64>,
+    failures: Failures,
     tries: Tries,
     /// The files of the case.
     files: Files,
+    /// The words of the last call.
+    words: Vec<String>,
     /// What the last call did, at each of its tries.
     answers: Vec<Answer>,
     /// What the call before it did.
@@ -34,7 +36,9 @@ pub struct Stage {
     /// Whether the status of the last call is still to be said.
     unsaid: bool,
     /// The twin of the last plain call.
-    twin: Option<Box<MemTwin>>,
+    twin: Option<MemTwin>,
+    /// What is wrong with the last line.
+    wrong: Wrong,
     cases: u64,
     calls: u64,
 }
@@ -43,67 +47,59 @@ impl Drop for Stage {
     fn drop(self) {
         let Stage {
             texts,
-            failing,
-            failing_texts,
+            failures,
             tries,
             files,
+            words,
             answers,
             left,
             unsaid,
             twin,
+            wrong,
             cases,
             calls,
         } = self;
         let _ = texts;
-        let _ = failing;
-        let _ = failing_texts;
+        let _ = failures;
         let _ = tries;
         let _ = files;
+        let _ = words;
         let _ = answers;
         let _ = left;
         let _ = unsaid;
         let _ = twin;
+        let _ = wrong;
         let _ = cases;
         let _ = calls;
     }
 }
 
-fn complaint(alloc: Global, text: &str) -> Judged {
-    Ok(Some(String::from_str(alloc, text)?))
-}
-
-/// A complaint, or nothing where it holds.
-fn unless(alloc: Global, holds: bool, text: &str) -> Judged {
-    if holds {
-        return Ok(None);
+// Puts these bytes in the place of those that are there; whether there are so many.
+fn put_bytes(file: &mut [u8], at: u64, bytes: &[u8]) -> bool {
+    let mut place = at as usize;
+    for byte in bytes {
+        let Some(there) = file.get_mut(place) else {
+            return false;
+        };
+        *there = *byte;
+        place = place.saturating_add(1);
     }
-    complaint(alloc, text)
-}
-
-/// The last line that a try of the call sent and no line of the case has named.
-fn sent_too(alloc: Global, answers: &[Answer]) -> Judged {
-    let mut last = None;
-    for answer in answers {
-        last = answer.next_line().or(last);
-    }
-    match last {
-        Some(line) => Ok(Some(format!(in alloc; "the call before sent too: {line}")?)),
-        None => Ok(None),
-    }
+    true
 }
 
 impl Stage {
     pub fn new(alloc: Global) -> Stage {
         Stage {
             texts: Texts::new(alloc),
-            failing: Vec::new(alloc),
-            failing_texts: Vec::new(alloc),
+            failures: Failures::none(alloc),
             tries: Tries::Plain,
             files: Files::empty(alloc),
+            words: Vec::new(alloc),
             answers: Vec::new(alloc),
             left: Vec::new(alloc),
             unsaid: false,
             twin: None,
+            wrong: Wrong::nothing(alloc),
             cases: 0,
             calls: 0,
         }
@@ -114,307 +110,403 @@ impl Stage {
         self.cases
     }
 
-    /// How many calls there were, each try counted.
+    /// How many calls there were that are done with, each try counted.
     pub fn calls(&self) -> u64 {
         self.calls
     }
 
-    /// Does what the line says, and answers what is wrong.
-    pub fn obey<P: Program>(&mut self, alloc: Global, line: Line<'_>) -> Judged {
-        match line {
-            Line::Empty => Ok(None),
-            Line::Case(_) => self.begin_case(alloc),
-            Line::Call(words) => self.call::<P>(alloc, words),
-            Line::Fail(kind, number) => self.fail(kind, number),
-            Line::Fails(kind, from, to) => self.try_with(alloc, Tries::Fails(kind, from, to)),
-            Line::Stop(call, choice) => self.try_with(alloc, Tries::Stop(call, choice)),
-            Line::Stops(from, to) => self.try_with(alloc, Tries::Stops(from, to)),
-            Line::Again => self.try_with(alloc, Tries::Again),
-            Line::NoFile(half) => {
-                self.files.file_mut(half).clear();
-                Ok(None)
-            }
-            Line::Put(half, at, bytes) => self.put(alloc, half, at, bytes),
-            Line::Cut(half, length) => self.cut(alloc, half, length),
-            Line::Shared(_)
-            | Line::File(_)
-            | Line::Uses(_, _)
-            | Line::Whole(_)
-            | Line::Piece(_)
-            | Line::Fill(_, _)
-            | Line::SetLine(_, _) => self.write(alloc, line),
-            _ => self.judge(alloc, line),
+    /// What is wrong with the last line, if something is.
+    pub fn wrong(&self) -> Option<&str> {
+        self.wrong.text()
+    }
+
+    /// Does what the line says.
+    pub fn obey<P: Program>(&mut self, alloc: Global, text: &str) -> Done {
+        self.wrong.clear();
+        let (word, rest) = split(text);
+        let done = match word {
+            "" | "*" => Some(Ok(())),
+            "case" => Some(self.begin_case()),
+            "call" => Some(self.call::<P>(alloc, rest)),
+            "second" => self.obey_second(alloc, rest),
+            _ => self.obey_any(alloc, word, rest),
+        };
+        match done {
+            Some(done) => done,
+            None => self.wrong.say("no such line"),
         }
     }
 
-    /// Does what a line about texts says.
-    fn write(&mut self, alloc: Global, line: Line<'_>) -> Judged {
-        let done = match line {
-            Line::Shared(name) => {
-                self.texts.begin(alloc, name, true)?;
-                true
-            }
-            Line::File(name) => {
-                self.texts.begin(alloc, name, false)?;
-                true
-            }
-            Line::Uses(name, shared) => self.texts.take_shared(alloc, name, shared)?,
-            Line::Whole(text) => self.texts.append(alloc, text, 1, "\n")?,
-            Line::Piece(text) => self.texts.append(alloc, text, 1, "")?,
-            Line::Fill(times, text) => self.texts.append(alloc, text, times, "")?,
-            Line::SetLine(number, text) => self.texts.set_line(alloc, number, text)?,
-            _ => false,
-        };
-        unless(alloc, done, "no such text")
+    // Does what a line behind the word `second` says. None where it is no such line, here as below.
+    fn obey_second(&mut self, alloc: Global, text: &str) -> Option<Done> {
+        let (word, rest) = split(text);
+        self.obey_half(alloc, Half::Second, word, rest)
     }
 
-    fn begin_case(&mut self, alloc: Global) -> Judged {
-        let found = self.finish_call(alloc)?;
+    fn obey_any(&mut self, alloc: Global, word: &str, rest: &str) -> Option<Done> {
+        if let Some(done) = self.obey_text(alloc, word, rest) {
+            return Some(done);
+        }
+        if let Some(done) = self.obey_call(alloc, word, rest) {
+            return Some(done);
+        }
+        self.obey_half(alloc, Half::First, word, rest)
+    }
+
+    // Does what a line about texts says.
+    fn obey_text(&mut self, alloc: Global, word: &str, rest: &str) -> Option<Done> {
+        match word {
+            "text" => Some(self.texts.begin(alloc, rest, true)),
+            "file" => Some(self.begin_file(alloc, rest)),
+            "|" => Some(self.append(alloc, rest, 1, "\n")),
+            "+" => Some(self.append(alloc, rest, 1, "")),
+            "fill" => {
+                let (times, piece) = number_and_text(rest)?;
+                Some(self.append(alloc, piece, times, ""))
+            }
+            "line" => {
+                let (at, line) = number_and_text(rest)?;
+                Some(self.set_line(alloc, at, line))
+            }
+            _ => None,
+        }
+    }
+
+    fn begin_file(&mut self, alloc: Global, rest: &str) -> Done {
+        match rest.split_once(" = ") {
+            Some((name, shared)) => {
+                let done = self.texts.take_shared(alloc, name, shared)?;
+                self.wrong.unless(done, "no such text")
+            }
+            None => self.texts.begin(alloc, rest, false),
+        }
+    }
+
+    fn append(&mut self, alloc: Global, piece: &str, times: u64, end: &str) -> Done {
+        let done = self.texts.append(alloc, piece, times, end)?;
+        self.wrong.unless(done, "no such text")
+    }
+
+    fn set_line(&mut self, alloc: Global, at: u64, line: &str) -> Done {
+        let done = self.texts.set_line(alloc, at, line)?;
+        self.wrong.unless(done, "no such text")
+    }
+
+    // Does what a line about the tries of the next call, or about what the last one answered and sent, says.
+    fn obey_call(&mut self, alloc: Global, word: &str, rest: &str) -> Option<Done> {
+        match word {
+            "stop" => {
+                let (call, choice) = numbers(rest)?;
+                Some(self.try_with(Tries::Stop(call, choice)))
+            }
+            "stops" => {
+                let (from, to) = numbers(rest)?;
+                Some(self.try_with(Tries::Stops(from, to)))
+            }
+            "again" if rest.is_empty() => Some(self.try_with(Tries::Again)),
+            "=" => {
+                let status = rest.parse::<u8>().ok()?;
+                self.unsaid = self.unsaid && self.answers.is_empty();
+                Some(self.judge(alloc, Said::Status(status)))
+            }
+            ">" => Some(self.judge(alloc, Said::Sent(rest))),
+            _ => None,
+        }
+    }
+
+    // Does what a line about the file of this half, or about its calls, says.
+    fn obey_half(&mut self, alloc: Global, half: Half, word: &str, rest: &str) -> Option<Done> {
+        match word {
+            "empty" if rest.is_empty() => {
+                self.files.file_mut(half).clear();
+                Some(Ok(()))
+            }
+            "same" if rest.is_empty() => Some(self.judge(alloc, Said::Same(half))),
+            "cut" => Some(self.cut(half, number(rest)?)),
+            "length" => Some(self.judge(alloc, Said::Length(half, number(rest)?))),
+            "put" => {
+                let (at, bytes) = number_and_text(rest)?;
+                Some(self.put(alloc, half, at, bytes))
+            }
+            "holds" => {
+                let (at, bytes) = number_and_text(rest)?;
+                Some(self.judge(alloc, Said::Holds(half, at, bytes)))
+            }
+            _ => self.obey_failing(half, word, rest),
+        }
+    }
+
+    fn obey_failing(&mut self, half: Half, word: &str, rest: &str) -> Option<Done> {
+        let (failing, rest) = failing_and_text(half, rest)?;
+        match word {
+            "fail" => Some(self.failures.push(failing, number(rest)?)),
+            "fails" => {
+                let (from, to) = numbers(rest)?;
+                Some(self.try_with(Tries::Fails(failing, from, to)))
+            }
+            _ => None,
+        }
+    }
+
+    fn begin_case(&mut self) -> Done {
+        self.finish_call()?;
         self.cases = self.cases.saturating_add(1);
         self.texts.begin_case();
-        self.failing.clear();
-        self.failing_texts.clear();
+        self.failures.clear();
         self.tries = Tries::Plain;
         self.files.clear();
         self.twin = None;
-        Ok(found)
-    }
-
-    /// What no line has said of the last call, which is then done with.
-    pub fn finish_call(&mut self, alloc: Global) -> Judged {
-        let found = sent_too(alloc, &self.answers)?;
-        self.left = mem::replace(&mut self.answers, Vec::new(alloc));
-        if self.unsaid {
-            self.unsaid = false;
-            return complaint(alloc, "the call before has no status line");
-        }
-        Ok(found)
-    }
-
-    fn fail(&mut self, kind: Failing, number: u64) -> Judged {
-        match kind {
-            Failing::Text => self.failing_texts.push(number)?,
-            Failing::Twin(half, kind) => self.failing.push((half, kind, number))?,
-        }
-        Ok(None)
-    }
-
-    fn try_with(&mut self, alloc: Global, tries: Tries) -> Judged {
-        let first = matches!(self.tries, Tries::Plain);
-        self.tries = tries;
-        unless(alloc, first, "the next call is tried otherwise already")
-    }
-
-    fn put(&mut self, alloc: Global, half: Half, at: u64, text: &str) -> Judged {
-        let Some(bytes) = unescaped(alloc, text, 0)? else {
-            return complaint(alloc, "no such bytes");
-        };
-        let file = self.files.file_mut(half);
-        let mut place = at as usize;
-        for byte in bytes.as_slice() {
-            let Some(there) = file.get_mut(place) else {
-                return complaint(alloc, "past the end of the KDCFILE");
-            };
-            *there = *byte;
-            place = place.saturating_add(1);
-        }
-        Ok(None)
-    }
-
-    fn cut(&mut self, alloc: Global, half: Half, length: u64) -> Judged {
-        let file = self.files.file_mut(half);
-        let fits = length <= file.len() as u64;
-        file.truncate(length as usize);
-        unless(alloc, fits, "past the end of the KDCFILE")
-    }
-
-    /// The call with these words, and with the failing calls that are then done with.
-    fn next_call(&mut self, alloc: Global, words: &str) -> Result<Call, OutOfMemory> {
-        let words = words_of(alloc, words)?;
-        let texts = copied(alloc, self.texts.own())?;
-        Ok(Call {
-            words,
-            texts,
-            failing: mem::replace(&mut self.failing, Vec::new(alloc)),
-            failing_texts: mem::replace(&mut self.failing_texts, Vec::new(alloc)),
-        })
-    }
-
-    /// Makes the call that the line asks for, at each of its tries.
-    fn call<P: Program>(&mut self, alloc: Global, words: &str) -> Judged {
-        let left = self.finish_call(alloc)?;
-        let call = self.next_call(alloc, words)?;
-        let found = self.try_call::<P>(alloc, &call)?;
-        Ok(left.or(found))
-    }
-
-    /// The call, at each of its tries.
-    fn try_call<P: Program>(&mut self, alloc: Global, call: &Call) -> Judged {
-        let tries = self.tries;
-        self.tries = Tries::Plain;
-        self.unsaid = true;
-        match tries {
-            Tries::Plain => self.call_once::<P>(alloc, call),
-            Tries::Fails(kind, from, to) => self.call_failing::<P>(alloc, call, kind, from, to),
-            Tries::Stop(stop, choice) => self.call_after_one::<P>(alloc, call, stop, choice),
-            Tries::Stops(from, to) => self.call_after_each::<P>(alloc, call, from, to),
-            Tries::Again => self.call_again::<P>(alloc, call),
-        }
-    }
-
-    /// Counts a try of the last call, and keeps what it did.
-    fn keep(&mut self, answer: Answer) -> Result<(), OutOfMemory> {
-        self.calls = self.calls.saturating_add(1);
-        self.answers.push(answer)?;
         Ok(())
     }
 
-    fn call_once<P: Program>(&mut self, alloc: Global, call: &Call) -> Judged {
-        let mut twin = call.twin(alloc, &self.files, None)?;
-        let at = String::new(alloc);
-        let answer = call.over::<P>(alloc, &mut twin, &self.files, None, at)?;
-        self.twin = Some(twin);
-        self.files = answer.files().copied()?;
-        self.keep(answer)?;
-        Ok(None)
+    /// Ends a text.
+    pub fn end(&mut self) -> Done {
+        self.wrong.clear();
+        self.finish_call()
     }
 
-    /// The call with this number failing. The files stay.
-    fn call_with<P: Program>(
-        &mut self,
+    // Says what no line has said of the last call, which is then done with.
+    fn finish_call(&mut self) -> Done {
+        let unsaid = self.unsaid;
+        self.unsaid = false;
+        self.wrong
+            .unless(!unsaid, "the call before has no status line")?;
+        self.say_sent_too()?;
+        self.calls = self.calls.saturating_add(self.answers.len() as u64);
+        mem::swap(&mut self.left, &mut self.answers);
+        self.answers.clear();
+        Ok(())
+    }
+
+    // Says the last line that a try of the call sent and no line of the case has named.
+    fn say_sent_too(&mut self) -> Done {
+        let mut last = None;
+        for answer in &self.answers {
+            last = answer.next_line().or(last);
+        }
+        match last {
+            Some(line) => self.wrong.say_sent_too(line),
+            None => Ok(()),
+        }
+    }
+
+    fn try_with(&mut self, tries: Tries) -> Done {
+        let first = matches!(self.tries, Tries::Plain);
+        self.tries = tries;
+        self.wrong
+            .unless(first, "the next call is tried otherwise already")
+    }
+
+    fn put(&mut self, alloc: Global, half: Half, at: u64, text: &str) -> Done {
+        let mut bytes = Bytes::new(alloc);
+        if !unescape(alloc, text, 0, &mut bytes)? {
+            return self.wrong.say("no such bytes");
+        }
+        let fits = put_bytes(self.files.file_mut(half), at, bytes.as_slice());
+        self.wrong.unless(fits, "past the end of the KDCFILE")
+    }
+
+    fn cut(&mut self, half: Half, length: u64) -> Done {
+        let file = self.files.file_mut(half);
+        let fits = length <= file.len() as u64;
+        file.truncate(length as usize);
+        self.wrong.unless(fits, "past the end of the KDCFILE")
+    }
+
+    // Makes the call that the line asks for, at each of its tries. The failing calls are then done with.
+    fn call<P: Program>(&mut self, alloc: Global, words: &str) -> Done {
+        self.finish_call()?;
+        self.words.clear();
+        append_words(alloc, &mut self.words, words)?;
+        self.unsaid = true;
+        self.try_call::<P>(alloc)?;
+        self.failures.clear();
+        Ok(())
+    }
+
+    // The call, at each of its tries.
+    fn try_call<P: Program>(&mut self, alloc: Global) -> Done {
+        let tries = self.tries;
+        self.tries = Tries::Plain;
+        match tries {
+            Tries::Plain => self.call_once::<P>(alloc),
+            Tries::Fails(kind, from, to) => self.call_failing::<P>(alloc, kind, from, to),
+            Tries::Stop(stop, choice) => self.call_after_one::<P>(alloc, stop, choice),
+            Tries::Stops(from, to) => self.call_after_each::<P>(alloc, from, to),
+            Tries::Again => self.call_again::<P>(alloc),
+        }
+    }
+
+    // The status of the call over this twin.
+    fn status_of<P: Program>(&self, alloc: Global, twin: &mut MemTwin) -> Result<u8, OutOfMemory> {
+        let mut texts = Vec::new(alloc);
+        self.texts.append_own(alloc, &mut texts)?;
+        let mut room = MemRoom::new(alloc, texts, self.failures.texts.clone()?)?;
+        Ok(P::call(alloc, &self.words, &mut room, twin))
+    }
+
+    // What the call over this twin, which has these files, does.
+    fn answer_of<P: Program>(
+        &self,
         alloc: Global,
-        call: &Call,
-        kind: Failing,
-        number: u64,
-    ) -> Result<(), OutOfMemory> {
-        let at = failing_name(alloc, kind, number)?;
-        let answer = call.tried::<P>(alloc, &self.files, Some((kind, number)), at)?;
-        self.keep(answer)
+        files: &Files,
+        twin: &mut MemTwin,
+        at: Try,
+    ) -> Result<Answer, OutOfMemory> {
+        let status = self.status_of::<P>(alloc, twin)?;
+        let mut answer = Answer::new(alloc, at, status);
+        answer.take(files, twin)?;
+        Ok(answer)
     }
 
-    /// The call with each of these numbers failing.
+    // What the call over these files does.
+    fn answer_over<P: Program>(
+        &self,
+        alloc: Global,
+        files: &Files,
+        at: Try,
+    ) -> Result<Answer, OutOfMemory> {
+        let mut twin = files.twin(alloc, &self.failures.twin)?;
+        self.answer_of::<P>(alloc, files, &mut twin, at)
+    }
+
+    // The call over the files of the case, which become those that it leaves.
+    fn call_once<P: Program>(&mut self, alloc: Global) -> Done {
+        let mut twin = self.files.twin(alloc, &self.failures.twin)?;
+        let done = self.call_over_twin::<P>(alloc, &mut twin);
+        self.twin = Some(twin);
+        done
+    }
+
+    fn call_over_twin<P: Program>(&mut self, alloc: Global, twin: &mut MemTwin) -> Done {
+        let answer = self.answer_of::<P>(alloc, &self.files, twin, Try::Plain)?;
+        self.answers.push(answer)?;
+        self.keep_files()
+    }
+
+    // The files of the case become those that the last try left.
+    fn keep_files(&mut self) -> Done {
+        match self.answers.last() {
+            Some(answer) => self.files.copy(answer.files()),
+            None => Ok(()),
+        }
+    }
+
+    // The call with this number failing. The files stay.
+    fn call_with<P: Program>(&mut self, alloc: Global, failing: Failing, number: u64) -> Done {
+        self.failures.push(failing, number)?;
+        let at = Try::Fails(failing, number);
+        let answer = self.answer_over::<P>(alloc, &self.files, at)?;
+        self.answers.push(answer)?;
+        self.failures.pop(failing);
+        Ok(())
+    }
+
+    // The call with each of these numbers failing.
     fn call_failing<P: Program>(
         &mut self,
         alloc: Global,
-        call: &Call,
-        kind: Failing,
+        failing: Failing,
         from: u64,
         to: u64,
-    ) -> Judged {
+    ) -> Done {
         for number in from..=to {
-            self.call_with::<P>(alloc, call, kind, number)?;
+            self.call_with::<P>(alloc, failing, number)?;
         }
-        unless(alloc, from <= to, "no number")
+        self.wrong.unless(from <= to, "no number")
     }
 
-    /// The call over what this answer left.
-    fn call_over<P: Program>(
-        &mut self,
-        alloc: Global,
-        call: &Call,
-        before: &Answer,
-    ) -> Result<(), OutOfMemory> {
-        let at = String::from_str(alloc, before.at())?;
-        let answer = call.tried::<P>(alloc, before.files(), None, at)?;
-        self.keep(answer)
-    }
-
-    /// The call over what each try of the last one left. The files stay.
-    fn call_again<P: Program>(&mut self, alloc: Global, call: &Call) -> Judged {
+    // The call over what each try of the last one left. The files stay.
+    fn call_again<P: Program>(&mut self, alloc: Global) -> Done {
         let left = mem::replace(&mut self.left, Vec::new(alloc));
-        for before in &left {
-            self.call_over::<P>(alloc, call, before)?;
-        }
-        unless(alloc, !left.is_empty(), "no call before")
+        self.call_over_each::<P>(alloc, &left)?;
+        self.wrong.unless(!left.is_empty(), "no call before")
     }
 
-    /// What a stop of the last plain call leaves, or nothing where there is no such stop.
-    fn stopped(&self, alloc: Global, stop: u64, choice: u64) -> Result<Option<Files>, OutOfMemory> {
+    fn call_over_each<P: Program>(&mut self, alloc: Global, left: &[Answer]) -> Done {
+        for before in left {
+            let answer = self.answer_over::<P>(alloc, before.files(), before.at())?;
+            self.answers.push(answer)?;
+        }
+        Ok(())
+    }
+
+    // Takes the files that a stop of the last plain call leaves; whether there is such a stop.
+    fn stop(
+        &self,
+        alloc: Global,
+        stop: u64,
+        choice: u64,
+        files: &mut Files,
+    ) -> Result<bool, OutOfMemory> {
         let Some(twin) = &self.twin else {
-            return Ok(None);
+            return Ok(false);
         };
         if stop > twin.calls() {
-            return Ok(None);
+            return Ok(false);
         }
-        Ok(Some(Files::after_stop(alloc, twin, stop, choice)?))
+        let stopped = twin.after_stop(alloc, stop, choice)?;
+        files.take_from(&stopped)?;
+        Ok(true)
     }
 
-    /// The call over what a stop of the last plain call leaves; what this leaves, or nothing where there is no such stop.
+    // The call over what a stop of the last plain call leaves; whether there is such a stop. The files stay.
     fn call_after_stop<P: Program>(
         &mut self,
         alloc: Global,
-        call: &Call,
         stop: u64,
         choice: u64,
-    ) -> Result<Option<Files>, OutOfMemory> {
-        let Some(stopped) = self.stopped(alloc, stop, choice)? else {
-            return Ok(None);
-        };
-        let at = format!(in alloc; "stop {stop} {choice}")?;
-        let answer = call.tried::<P>(alloc, &stopped, None, at)?;
-        let left = answer.files().copied()?;
-        self.keep(answer)?;
-        Ok(Some(left))
+    ) -> Result<bool, OutOfMemory> {
+        let mut files = Files::empty(alloc);
+        self.call_over_stop::<P>(alloc, stop, choice, &mut files)
     }
 
-    fn call_after_one<P: Program>(
+    fn call_over_stop<P: Program>(
         &mut self,
         alloc: Global,
-        call: &Call,
         stop: u64,
         choice: u64,
-    ) -> Judged {
-        match self.call_after_stop::<P>(alloc, call, stop, choice)? {
-            Some(left) => {
-                self.files = left;
-                Ok(None)
-            }
-            None => complaint(alloc, "there is no such stop"),
+        files: &mut Files,
+    ) -> Result<bool, OutOfMemory> {
+        if !self.stop(alloc, stop, choice, files)? {
+            self.wrong.say("there is no such stop")?;
+            return Ok(false);
         }
+        let answer = self.answer_over::<P>(alloc, files, Try::Stop(stop, choice))?;
+        self.answers.push(answer)?;
+        Ok(true)
     }
 
-    /// The call over what each of these stops leaves. The files stay.
-    fn call_after_each<P: Program>(
-        &mut self,
-        alloc: Global,
-        call: &Call,
-        from: u64,
-        to: u64,
-    ) -> Judged {
+    fn call_after_one<P: Program>(&mut self, alloc: Global, stop: u64, choice: u64) -> Done {
+        if self.call_after_stop::<P>(alloc, stop, choice)? {
+            self.keep_files()?;
+        }
+        Ok(())
+    }
+
+    // The call over what each of these stops leaves. The files stay.
+    fn call_after_each<P: Program>(&mut self, alloc: Global, from: u64, to: u64) -> Done {
         for stop in from..=to {
-            for choice in CHOICES {
-                let left = self.call_after_stop::<P>(alloc, call, stop, choice)?;
-                if left.is_none() {
-                    return complaint(alloc, "there is no such stop");
-                }
-            }
+            self.call_with_each_choice::<P>(alloc, stop)?;
         }
-        unless(alloc, from <= to, "no number")
+        self.wrong.unless(from <= to, "no number")
     }
 
-    /// What the last call did otherwise than this line says, at the first try that did so.
-    fn judge(&mut self, alloc: Global, line: Line<'_>) -> Judged {
+    fn call_with_each_choice<P: Program>(&mut self, alloc: Global, stop: u64) -> Done {
+        for choice in CHOICES {
+            self.call_after_stop::<P>(alloc, stop, choice)?;
+        }
+        Ok(())
+    }
+
+    // Says what the last call did otherwise than this, at the first try that did so.
+    fn judge(&mut self, alloc: Global, said: Said<'_>) -> Done {
         if self.answers.is_empty() {
-            return complaint(alloc, "no call before");
+            return self.wrong.say("no call before");
         }
-        if matches!(line, Line::Status(_)) {
-            self.unsaid = false;
-        }
-        let mut first = None;
         for answer in &mut self.answers {
-            let found = answer.judge(alloc, line)?;
-            if first.is_none() {
-                first = located(alloc, found, answer.at())?;
-            }
+            answer.judge(alloc, said, &mut self.wrong)?;
         }
-        Ok(first)
-    }
-}
-
-/// The complaint with the try that it is about.
-fn located(alloc: Global, found: Option<String>, at: &str) -> Judged {
-    match found {
-        Some(found) if !at.is_empty() => Ok(Some(format!(in alloc; "{found}, at {at}")?)),
-        found => Ok(found),
+        Ok(())
     }
 }

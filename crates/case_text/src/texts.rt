@@ -1,23 +1,22 @@
 //! The texts of a case, and the words of a call.
 
-use crate::escapes::{has_number, unescaped};
+use crate::escapes::{has_number, unescape};
 use kd_base::{Bytes, OutOfMemory};
-use std::alloc::{AllocError, Global};
+use std::alloc::Global;
 
-/// The words of a call, of which `''` is the empty one.
-pub fn words_of(alloc: Global, text: &str) -> Result<Vec<String>, AllocError> {
-    let mut words = Vec::new(alloc);
+/// Appends the words of a call, of which `''` is the empty one.
+pub fn append_words(alloc: Global, words: &mut Vec<String>, text: &str) -> Result<(), OutOfMemory> {
     for word in text.split_ascii_whitespace() {
         let word = if word == "''" { "" } else { word };
         words.push(String::from_str(alloc, word)?)?;
     }
-    Ok(words)
+    Ok(())
 }
 
 /// Texts by name, as a room has them.
 pub type NamedTexts = Vec<(Bytes, Bytes)>;
 
-/// The text of this name, if it is there.
+// The text of this name, if it is there.
 fn text_named<'a>(texts: &'a [(Bytes, Bytes)], name: &str) -> Option<&'a Bytes> {
     for (key, text) in texts {
         if key.as_slice() == name.as_bytes() {
@@ -27,22 +26,27 @@ fn text_named<'a>(texts: &'a [(Bytes, Bytes)], name: &str) -> Option<&'a Bytes> 
     None
 }
 
-fn copied_text(text: &(Bytes, Bytes)) -> Result<(Bytes, Bytes), OutOfMemory> {
-    let name = text.0.clone()?;
-    Ok((name, text.1.clone()?))
+// Appends a text. One that had its name goes.
+fn put_text(
+    alloc: Global,
+    texts: &mut NamedTexts,
+    name: &[u8],
+    text: &[u8],
+) -> Result<(), OutOfMemory> {
+    texts.retain(|(key, _)| key.as_slice() != name);
+    append_text(alloc, texts, name, text)
 }
 
-/// The texts again.
-pub fn copied(alloc: Global, texts: &[(Bytes, Bytes)]) -> Result<NamedTexts, OutOfMemory> {
-    let mut all = Vec::new(alloc);
-    for text in texts {
-        all.push(copied_text(text)?)?;
-    }
-    Ok(all)
-}
-
-fn forget(texts: &mut NamedTexts, name: &str) {
-    texts.retain(|(key, _)| key.as_slice() != name.as_bytes());
+fn append_text(
+    alloc: Global,
+    texts: &mut NamedTexts,
+    name: &[u8],
+    text: &[u8],
+) -> Result<(), OutOfMemory> {
+    let name = Bytes::from_slice(alloc, name)?;
+    let text = Bytes::from_slice(alloc, text)?;
+    texts.push((name, text))?;
+    Ok(())
 }
 
 /// The texts of the case, and those that all later cases may use.
@@ -89,10 +93,7 @@ impl Texts {
         } else {
             &mut self.own
         };
-        forget(texts, name);
-        let name = Bytes::from_slice(alloc, name.as_bytes())?;
-        texts.push((name, Bytes::new(alloc)))?;
-        Ok(())
+        put_text(alloc, texts, name.as_bytes(), &[])
     }
 
     /// Takes the shared text for the one of this name; whether there is a shared one.
@@ -105,12 +106,19 @@ impl Texts {
         let Some(text) = text_named(&self.shared, shared) else {
             return Ok(false);
         };
-        let text = text.clone()?;
         self.sharing = false;
-        forget(&mut self.own, name);
-        let name = Bytes::from_slice(alloc, name.as_bytes())?;
-        self.own.push((name, text))?;
+        put_text(alloc, &mut self.own, name.as_bytes(), text.as_slice())?;
         Ok(true)
+    }
+
+    // The text that was begun last.
+    fn begun(&mut self) -> Option<&mut Bytes> {
+        let texts = if self.sharing {
+            &mut self.shared
+        } else {
+            &mut self.own
+        };
+        Some(&mut texts.last_mut()?.1)
     }
 
     /// Adds a piece to the text that was begun last, so many times, and an end after it; whether there is such a text
@@ -122,12 +130,28 @@ impl Texts {
         times: u64,
         end: &str,
     ) -> Result<bool, OutOfMemory> {
-        let texts = if self.sharing {
-            &mut self.shared
-        } else {
-            &mut self.own
+        let mut bytes = Bytes::new(alloc);
+        self.append_unescaped(alloc, piece, times, end, &mut bytes)
+    }
+
+    // The same, with room for the bytes of the piece.
+    fn append_unescaped(
+        &mut self,
+        alloc: Global,
+        piece: &str,
+        times: u64,
+        end: &str,
+        bytes: &mut Bytes,
+    ) -> Result<bool, OutOfMemory> {
+        if !unescape(alloc, piece, 1, bytes)? {
+            return Ok(false);
+        }
+        let Some(text) = self.begun() else {
+            return Ok(false);
         };
-        append_to_last(alloc, texts, piece, times, end)
+        append_times(alloc, text, piece, bytes.as_slice(), times)?;
+        text.append(end.as_bytes())?;
+        Ok(true)
     }
 
     /// Puts a line in place of the one of this number, from 1 on, of the text that was begun last; whether there is such a
@@ -138,77 +162,72 @@ impl Texts {
         number: u64,
         line: &str,
     ) -> Result<bool, OutOfMemory> {
-        let texts = if self.sharing {
-            &mut self.shared
-        } else {
-            &mut self.own
+        let mut out = Bytes::new(alloc);
+        let Some(text) = self.begun() else {
+            return Ok(false);
         };
-        set_line_of_last(alloc, texts, number, line)
-    }
-
-    /// The texts of the case.
-    pub fn own(&self) -> &NamedTexts {
-        &self.own
-    }
-}
-
-fn append_to_last(
-    alloc: Global,
-    texts: &mut NamedTexts,
-    piece: &str,
-    times: u64,
-    end: &str,
-) -> Result<bool, OutOfMemory> {
-    let Some(bytes) = unescaped(alloc, piece, 1)? else {
-        return Ok(false);
-    };
-    let Some((_, whole)) = texts.last_mut() else {
-        return Ok(false);
-    };
-    if has_number(piece) {
-        append_numbered(alloc, whole, piece, times)?;
-    } else {
-        for _ in 0..times {
-            whole.append(bytes.as_slice())?;
+        let found = append_with_line(alloc, &mut out, text.as_slice(), number, line)?;
+        if found {
+            *text = out;
         }
+        Ok(found)
     }
-    whole.append(end.as_bytes())?;
-    Ok(true)
+
+    /// Appends the texts of the case to these.
+    pub fn append_own(&self, alloc: Global, texts: &mut NamedTexts) -> Result<(), OutOfMemory> {
+        for (name, text) in &self.own {
+            append_text(alloc, texts, name.as_slice(), text.as_slice())?;
+        }
+        Ok(())
+    }
 }
 
-fn set_line_of_last(
+// Appends a piece so many times, of which these are the bytes with the number 1.
+fn append_times(
     alloc: Global,
-    texts: &mut NamedTexts,
+    text: &mut Bytes,
+    piece: &str,
+    bytes: &[u8],
+    times: u64,
+) -> Result<(), OutOfMemory> {
+    if has_number(piece) {
+        return append_numbered(alloc, text, piece, times);
+    }
+    for _ in 0..times {
+        text.append(bytes)?;
+    }
+    Ok(())
+}
+
+// Appends the piece with the number 1 in it, then 2, up to the last one.
+fn append_numbered(
+    alloc: Global,
+    text: &mut Bytes,
+    piece: &str,
+    last: u64,
+) -> Result<(), OutOfMemory> {
+    for number in 1..=last {
+        unescape(alloc, piece, number, text)?;
+    }
+    Ok(())
+}
+
+// Appends the text with another line of this number; whether it has such a line, and this is one.
+fn append_with_line(
+    alloc: Global,
+    out: &mut Bytes,
+    text: &[u8],
     number: u64,
     line: &str,
 ) -> Result<bool, OutOfMemory> {
-    let Some(line) = unescaped(alloc, line, 1)? else {
-        return Ok(false);
-    };
-    let Some((_, whole)) = texts.last_mut() else {
-        return Ok(false);
-    };
-    let Some(text) = with_line(alloc, whole.as_slice(), number, line.as_slice())? else {
-        return Ok(false);
-    };
-    *whole = text;
-    Ok(true)
-}
-
-/// The text with another line of this number, if it has one.
-fn with_line(
-    alloc: Global,
-    text: &[u8],
-    number: u64,
-    line: &[u8],
-) -> Result<Option<Bytes>, OutOfMemory> {
-    let mut out = Bytes::new(alloc);
     let mut at: u64 = 1;
     let mut found = false;
     for byte in text {
         if at == number && !found {
-            out.append(line)?;
-            found = true;
+            found = unescape(alloc, line, 1, out)?;
+            if !found {
+                break;
+            }
         }
         if at != number || *byte == b'\n' {
             out.push(*byte)?;
@@ -217,20 +236,5 @@ fn with_line(
             at = at.saturating_add(1);
         }
     }
-    Ok(if found { Some(out) } else { None })
-}
-
-/// Adds the piece with the number 1 in it, then 2, up to the last one.
-fn append_numbered(
-    alloc: Global,
-    whole: &mut Bytes,
-    piece: &str,
-    last: u64,
-) -> Result<(), OutOfMemory> {
-    for number in 1..=last {
-        if let Some(bytes) = unescaped(alloc, piece, number)? {
-            whole.append(bytes.as_slice())?;
-        }
-    }
-    Ok(())
+    Ok(found)
 }
