@@ -2,6 +2,7 @@ use Rattle.std.proofs.Common.{ap}
 use Rattle.device_acts.specs.Acting.{commits_nothing}
 use Rattle.kdcfile_update.specs.Parts.{WithinUpdate, stored_in}
 use Rattle.kdcfile_update.specs.Updating.{IsUpToDate}
+use Rattle.kdcfile_update.proofs.Errors.{device_failed, unless_failed}
 use Rattle.kdcfile_update.proofs.Updated.{kept_updated, kept_within, up_there}
 use Rattle.kdcfile_update.proofs.updating.keep_tables.Given.{Over}
 use Rattle.kdcfile_update.proofs.updating.keep_tables.Goals.{After-send}
@@ -30,3 +31,11 @@ returns-in_err-send-clause-any g c = within g (goal.at.returns-in_err-send-claus
 
 pub returns-clause-any : goal.returns-clause-any
 returns-clause-any g c = within g (goal.at.returns-clause-any g c).After-send
+
+-- ---- errors
+
+pub returns-in_err-send-clause-fine : goal.returns-in_err-send-clause-fine
+returns-in_err-send-clause-fine g c = λ none. c.in_err-send.ensures.fine (unless_failed _ _ c.from_residual-in_err-send.result c.in_err-send.field-0.0 c.from_residual-in_err-send.ensures.1 none)
+
+pub returns-in_err-send-clause-failed : goal.returns-in_err-send-clause-failed
+returns-in_err-send-clause-failed g c = λ is. c.in_err-send.ensures.failed (device_failed _ _ c.from_residual-in_err-send.result c.in_err-send.field-0.0 c.from_residual-in_err-send.ensures.1 is)
