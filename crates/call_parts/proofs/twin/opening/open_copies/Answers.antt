@@ -1,11 +1,12 @@
 use Rattle.std.proofs.Common.{List, ℕ, refl, sym, subst, inl, ◌∙◌}
 use Rattle.std.specs.Prelude.{IsTrue}
+use Rattle.kd_base.specs.ToolsLaws.{error_same}
 use Rattle.kd_device.specs.declared.error.DeviceError.TheVariants as device
 use Rattle.device_acts.specs.ErrorsLaws.{no_error}
 use Rattle.kdcfile_double.specs.Causes.{of_device}
 use Rattle.kdcfile_double.specs.declared.error.TwinOpenError.TheVariants as to
-use Rattle.kdcfile_double.specs.MakingLaws.{none_rose_then, told_of}
-use Rattle.kdcfile_double.specs.Opening.{StartsFromTwo, identity_twice}
+use Rattle.kdcfile_double.specs.MakingLaws.{none_rose_then, one_rose_then, told_of}
+use Rattle.kdcfile_double.specs.Opening.{IsRefusedTwo, IsSpent, IsTwoOfOtherTexts, StartsFromTwo, identity_twice}
 use Rattle.call_parts.specs.TwoAnswersLaws.{started_two_once}
 use Rattle.call_parts.specs.BehindLaws.{behind_is_mended, mended_was_behind, used_or_lost}
 use Rattle.call_parts.proofs.HandedOn.{no_cause}
@@ -180,3 +181,41 @@ returns-clause-any_moment g c = λ told rest t starts.
     (g.T.Twin.leaves c.open.new.twin) (λ filled. (c.open.ensures.still told_b (inl filled)).1) (c.open.ensures.any_moment told_b) (g.T.Twin.both c.mend.new.twin) (g.T.Twin.leaves c.mend.new.twin) c.in_ok-store.store c.in_ok-store.tables
     (c.in_ok-store.ensures.keeps (c.in_ok-store.ensures.is_open (inl refl))) (started_two_once c.args.generation.now c.args.fingerprint.now a.first.holds a.second.holds c.in_ok-store.tables t own starts) (c.open.ensures.frame.sent told_b ∙ attached.sent)
     (c.mend.ensures.any_moment told_e)
+
+-- ---- errors of the opening
+
+pub returns-in_err-store-clause-refused : goal.returns-in_err-store-clause-refused
+returns-in_err-store-clause-refused g c = λ is told.
+    same_files (g.T.Twin.both c.args.twin.now) (g.T.Twin.both c.attach_both.new.twin) (λ (p q : List ℕ). IsRefusedTwo c.args.generation.now c.args.fingerprint.now p q) (c.attach_both.ensures.rests told).files
+    (c.in_err-store.ensures.refused (error_same _ _ c.from_residual-in_err-store.result c.in_err-store.field-0.0 to.NotKdcfile c.from_residual-in_err-store.ensures.1 is) (subst IsTrue (sym c.attach_both.ensures.frame.told) told))
+
+pub returns-in_err-store-clause-other : goal.returns-in_err-store-clause-other
+returns-in_err-store-clause-other g c = λ stored is told.
+    same_files (g.T.Twin.both c.args.twin.now) (g.T.Twin.both c.attach_both.new.twin) (λ (p q : List ℕ). IsTwoOfOtherTexts stored c.args.fingerprint.now p q) (c.attach_both.ensures.rests told).files
+    (c.in_err-store.ensures.other stored (error_same _ _ c.from_residual-in_err-store.result c.in_err-store.field-0.0 (to.OtherGeneration stored) c.from_residual-in_err-store.ensures.1 is) (subst IsTrue (sym c.attach_both.ensures.frame.told) told))
+
+pub returns-in_err-store-clause-spent : goal.returns-in_err-store-clause-spent
+returns-in_err-store-clause-spent g c = λ n is told.
+    same_files (g.T.Twin.both c.args.twin.now) (g.T.Twin.both c.attach_both.new.twin) (λ (p q : List ℕ). IsSpent c.args.generation.now c.args.fingerprint.now n p q) (c.attach_both.ensures.rests told).files
+    (c.in_err-store.ensures.spent n (error_same _ _ c.from_residual-in_err-store.result c.in_err-store.field-0.0 (to.Spent n) c.from_residual-in_err-store.ensures.1 is) (subst IsTrue (sym c.attach_both.ensures.frame.told) told))
+
+pub returns-in_err-store-clause-failed : goal.returns-in_err-store-clause-failed
+returns-in_err-store-clause-failed g c = λ is.
+    one_rose_then (g.T.Twin.both c.args.twin.now) (g.T.Twin.both c.attach_both.new.twin) (g.T.Twin.both c.open.new.twin) (c.in_ok-attach_both.ensures.fine (no_error _ _))
+    (c.in_err-store.ensures.failed (error_same _ _ c.from_residual-in_err-store.result c.in_err-store.field-0.0 to.Failed c.from_residual-in_err-store.ensures.1 is))
+
+pub returns-in_err-attach_both-clause-failed : goal.returns-in_err-attach_both-clause-failed
+returns-in_err-attach_both-clause-failed g c = λ is. c.in_err-attach_both.ensures.failed (failed_of _ _ c.from_residual.result c.in_err-attach_both.field-0.0 c.from_residual.ensures.1 is)
+
+pub returns-in_err-store-clause-names : goal.returns-in_err-store-clause-names
+returns-in_err-store-clause-names g c = λ told.
+    may_attach_then (g.T.Twin.both c.args.twin.now) (g.T.Twin.both c.attach_both.new.twin) (g.T.Twin.both c.open.new.twin) c.args.base.now (subst IsTrue (sym c.attach_both.ensures.frame.told) told) (c.attach_both.ensures.names told) c.open.ensures.frame
+
+pub returns-clause-names : goal.returns-clause-names
+returns-clause-names g c = λ told.
+    let a = g.T.Twin.both c.args.twin.now in
+    let b = g.T.Twin.both c.attach_both.new.twin in
+    let e = g.T.Twin.both c.open.new.twin in
+    let told_b : IsTrue b.told = subst IsTrue (sym c.attach_both.ensures.frame.told) told in
+    let told_e : IsTrue e.told = subst IsTrue (sym c.open.ensures.frame.told) told_b in
+    may_attach_then a e (g.T.Twin.both c.mend.new.twin) c.args.base.now told_e (may_attach_then a b e c.args.base.now told_b (c.attach_both.ensures.names told) c.open.ensures.frame) c.mend.ensures.frame
