@@ -1,4 +1,5 @@
 pub mod Changed
+pub mod Put
 pub mod Restarting
 pub mod Scripts
 pub mod Trimmed

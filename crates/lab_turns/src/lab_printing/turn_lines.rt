@@ -2,7 +2,7 @@
 ghost use Rattle.std.specs.Prelude.{◌≡◌, ◌++◌, codes, flat_map, IfOk, OnOk};
 ghost use Rattle.abstract_monitor.specs.Lines.{line, owner_text};
 ghost use Rattle.lab_turns.specs.Phrases.{area_text};
-ghost use Rattle.lab_turns.specs.TurnLines.{act_text, acts_text, answer_text, area_line, asked_text, code_by, command_line, commit_line, end_line, ending_line, free_line, holder_text, over_text, place_text, statement_text, task_text, turn_text, turned_text, turns_text, unit_text, wait_line, work_line};
+ghost use Rattle.lab_turns.specs.TurnLines.{act_text, acts_text, answer_text, area_line, asked_text, code_by, command_line, commit_line, end_line, end_text, ending_line, free_line, holder_text, over_text, place_text, statement_text, taken_text, task_text, turn_text, turned_text, turns_text, unit_text, wait_line, work_line};
 
 use crate::lab_printing::phrases::{
     code_text, ending_text, put_area, put_changes, put_command, put_number, put_service,
@@ -14,46 +14,43 @@ use kd_base::{Bytes, OutOfMemory, ProgName};
 use kdcs_types::{Act, Area, Changes, Code, Ending, ServiceId};
 use std::alloc::Global;
 
-// The line with its end.
-fn ended(mut text: Bytes) -> Result<Bytes, OutOfMemory>
-    ensures { IfOk result (λ ended. ended ≡ line text) }
-{
-    text.push(b'\n')?;
-    Ok(text)
-}
-
 // `>` and the command.
-fn command_line(alloc: Global, command: &Command) -> Result<Bytes, OutOfMemory>
-    ensures { IfOk result (λ text. text ≡ command_line command.now) }
+fn put_command_line(alloc: Global, out: &mut Bytes, command: &Command) -> Result<(), OutOfMemory>
+    ensures { OnOk result (out.new ≡ out.old ++ command_line command.now) }
 {
-    let mut text = Bytes::from_slice(alloc, b"> ")?;
-    put_command(alloc, &mut text, command)?;
-    ended(text)
+    out.append(b"> ")?;
+    put_command(alloc, out, command)?;
+    out.push(b'\n')
 }
 
 // Two blanks and the task.
-fn task_text(alloc: Global, task: u16) -> Result<Bytes, OutOfMemory>
-    ensures { IfOk result (λ text. text ≡ task_text task) }
+fn put_task(alloc: Global, out: &mut Bytes, task: u16) -> Result<(), OutOfMemory>
+    ensures { OnOk result (out.new ≡ out.old ++ task_text task) }
 {
-    let mut text = Bytes::from_slice(alloc, b"  ")?;
-    put_number(alloc, &mut text, u64::from(task))?;
-    text.append(b" ")?;
-    Ok(text)
+    out.append(b"  ")?;
+    put_number(alloc, out, u64::from(task))?;
+    out.append(b" ")
+}
+
+fn put_taken(alloc: Global, out: &mut Bytes, taken: &Option<ServiceId>) -> Result<(), OutOfMemory>
+    ensures { OnOk result (out.new ≡ out.old ++ taken_text taken.now) }
+{
+    match taken {
+        Some(id) => {
+            out.append(b"takes ")?;
+            put_service(alloc, out, id)
+        }
+        None => out.append(b"free"),
+    }
 }
 
 // What a free task did.
-fn free_line(alloc: Global, turn: &TurnView) -> Result<Bytes, OutOfMemory>
-    ensures { IfOk result (λ text. text ≡ free_line turn.now) }
+fn put_free_line(alloc: Global, out: &mut Bytes, turn: &TurnView) -> Result<(), OutOfMemory>
+    ensures { OnOk result (out.new ≡ out.old ++ free_line turn.now) }
 {
-    let mut text = task_text(alloc, turn.task)?;
-    match turn.after {
-        Some(id) => {
-            text.append(b"takes ")?;
-            put_service(alloc, &mut text, &id)?;
-        }
-        None => text.append(b"free")?,
-    }
-    ended(text)
+    put_task(alloc, out, turn.task)?;
+    put_taken(alloc, out, &turn.after)?;
+    out.push(b'\n')
 }
 
 fn put_unit(out: &mut Bytes, unit: Option<ProgName>) -> Result<(), OutOfMemory>
@@ -68,49 +65,44 @@ fn put_unit(out: &mut Bytes, unit: Option<ProgName>) -> Result<(), OutOfMemory>
     }
 }
 
-fn code_by(
-    alloc: Global,
+fn put_code(
+    out: &mut Bytes,
     answered: bool,
     ending: Option<Ending>,
     code: Option<Code>,
-) -> Result<Bytes, OutOfMemory>
-    ensures { IfOk result (λ text. text ≡ code_by answered ending code) }
+) -> Result<(), OutOfMemory>
+    ensures { OnOk result (out.new ≡ out.old ++ code_by answered ending code) }
 {
-    let mut text = Bytes::new(alloc);
-    if !answered {
-        return Ok(text);
-    }
-    match (ending, code) {
-        (None, Some(code)) => {
-            text.append(b" ")?;
-            text.append(code_text(code))?;
-            Ok(text)
+    match (answered, ending, code) {
+        (true, None, Some(code)) => {
+            out.append(b" ")?;
+            out.append(code_text(code))
         }
-        (None, None) | (Some(_), _) => Ok(text),
+        (true, None, None) | (true, Some(_), _) | (false, _, _) => Ok(()),
     }
 }
 
 // The code of a call, where it was answered and its transaction is open.
-fn answer_text(alloc: Global, turn: &TurnView, at: &At) -> Result<Bytes, OutOfMemory>
-    ensures { IfOk result (λ text. text ≡ answer_text turn.now at.now) }
+fn put_answer(out: &mut Bytes, turn: &TurnView, at: &At) -> Result<(), OutOfMemory>
+    ensures { OnOk result (out.new ≡ out.old ++ answer_text turn.now at.now) }
 {
-    code_by(alloc, turn.moved && at.calls, turn.ending, turn.code)
+    put_code(out, turn.moved && at.calls, turn.ending, turn.code)
 }
 
 fn put_statement(
     alloc: Global,
     out: &mut Bytes,
     source: &Source,
-    answer: &[u8],
-    line: Option<u32>,
+    turn: &TurnView,
+    at: &At,
 ) -> Result<(), OutOfMemory>
-    ensures { OnOk result (out.new ≡ out.old ++ statement_text source.now answer.now line) }
+    ensures { OnOk result (out.new ≡ out.old ++ statement_text source.now (answer_text turn.now at.now) at.now.line) }
 {
-    match line {
+    match at.line {
         Some(number) => {
             out.append(b" line ")?;
             put_number(alloc, out, u64::from(number))?;
-            out.append(answer)?;
+            put_answer(out, turn, at)?;
             out.append(b": ")?;
             out.append(source.line(number))
         }
@@ -130,29 +122,29 @@ fn put_place(
 {
     match &turn.at {
         Some(at) => {
-            let answer = answer_text(alloc, turn, at)?;
             out.append(b" ")?;
             out.append(at.tac.as_slice())?;
             put_unit(out, at.unit)?;
-            put_statement(alloc, out, source, answer.as_slice(), at.line)
+            put_statement(alloc, out, source, turn, at)
         }
         None => Ok(()),
     }
 }
 
 // The statement that a service did, or whose request waits.
-fn work_line(
+fn put_work_line(
     alloc: Global,
+    out: &mut Bytes,
     source: &Source,
     turn: &TurnView,
-    id: ServiceId,
-) -> Result<Bytes, OutOfMemory>
-    ensures { IfOk result (λ text. text ≡ work_line source.now turn.now id) }
+    id: &ServiceId,
+) -> Result<(), OutOfMemory>
+    ensures { OnOk result (out.new ≡ out.old ++ work_line source.now turn.now id.now) }
 {
-    let mut text = task_text(alloc, turn.task)?;
-    put_service(alloc, &mut text, &id)?;
-    put_place(alloc, &mut text, source, turn)?;
-    ended(text)
+    put_task(alloc, out, turn.task)?;
+    put_service(alloc, out, id)?;
+    put_place(alloc, out, source, turn)?;
+    out.push(b'\n')
 }
 
 fn put_area_line(
@@ -197,13 +189,18 @@ fn put_holder(alloc: Global, out: &mut Bytes, holder: &Option<ServiceId>) -> Res
 }
 
 // For which area the service waits, and who holds it.
-fn wait_line(alloc: Global, area: &Area, holder: &Option<ServiceId>) -> Result<Bytes, OutOfMemory>
-    ensures { IfOk result (λ text. text ≡ line (codes "    waits for " ++ area_text area.now ++ holder_text holder.now)) }
+fn put_wait(
+    alloc: Global,
+    out: &mut Bytes,
+    area: &Area,
+    holder: &Option<ServiceId>,
+) -> Result<(), OutOfMemory>
+    ensures { OnOk result (out.new ≡ out.old ++ line (codes "    waits for " ++ area_text area.now ++ holder_text holder.now)) }
 {
-    let mut text = Bytes::from_slice(alloc, b"    waits for ")?;
-    put_area(alloc, &mut text, area)?;
-    put_holder(alloc, &mut text, holder)?;
-    ended(text)
+    out.append(b"    waits for ")?;
+    put_area(alloc, out, area)?;
+    put_holder(alloc, out, holder)?;
+    out.push(b'\n')
 }
 
 fn put_wait_line(
@@ -214,7 +211,7 @@ fn put_wait_line(
     ensures { OnOk result (out.new ≡ out.old ++ wait_line waits.now) }
 {
     match waits {
-        Some((area, holder)) => out.append(wait_line(alloc, area, holder)?.as_slice()),
+        Some((area, holder)) => put_wait(alloc, out, area, holder),
         None => Ok(()),
     }
 }
@@ -243,26 +240,30 @@ fn put_below(alloc: Global, out: &mut Bytes, turn: &TurnView) -> Result<(), OutO
 }
 
 // What a turn did.
-fn turn_text(alloc: Global, source: &Source, turn: &TurnView) -> Result<Bytes, OutOfMemory>
-    ensures { IfOk result (λ text. text ≡ turn_text source.now turn.now) }
+fn put_turn(
+    alloc: Global,
+    out: &mut Bytes,
+    source: &Source,
+    turn: &TurnView,
+) -> Result<(), OutOfMemory>
+    ensures { OnOk result (out.new ≡ out.old ++ turn_text source.now turn.now) }
 {
-    match turn.before {
+    match &turn.before {
         Some(id) => {
-            let mut text = work_line(alloc, source, turn, id)?;
-            put_below(alloc, &mut text, turn)?;
-            Ok(text)
+            put_work_line(alloc, out, source, turn, id)?;
+            put_below(alloc, out, turn)
         }
-        None => free_line(alloc, turn),
+        None => put_free_line(alloc, out, turn),
     }
 }
 
 // What a commit changes.
-fn commit_line(alloc: Global, changes: &Changes) -> Result<Bytes, OutOfMemory>
-    ensures { IfOk result (λ text. text ≡ commit_line changes.now) }
+fn put_commit_line(alloc: Global, out: &mut Bytes, changes: &Changes) -> Result<(), OutOfMemory>
+    ensures { OnOk result (out.new ≡ out.old ++ commit_line changes.now) }
 {
-    let mut text = Bytes::from_slice(alloc, b"    commits ")?;
-    put_changes(alloc, &mut text, changes)?;
-    ended(text)
+    out.append(b"    commits ")?;
+    put_changes(alloc, out, changes)?;
+    out.push(b'\n')
 }
 
 // A line of the monitor; the commit, where it traces.
@@ -271,7 +272,7 @@ fn put_act(alloc: Global, out: &mut Bytes, traces: bool, act: &Act) -> Result<()
 {
     match act {
         Act::Emit(text) => out.append(text.as_slice()),
-        Act::Commit(changes) if traces => out.append(commit_line(alloc, changes)?.as_slice()),
+        Act::Commit(changes) if traces => put_commit_line(alloc, out, changes),
         Act::Commit(_) => Ok(()),
     }
 }
@@ -286,25 +287,31 @@ fn put_acts(alloc: Global, out: &mut Bytes, traces: bool, acts: &[Act]) -> Resul
     Ok(())
 }
 
-// How a RUN ended, after so many turns.
-fn end_line(alloc: Global, turns: u64, end: RunEnd) -> Result<Bytes, OutOfMemory>
-    ensures { IfOk result (λ text. text ≡ end_line turns end) }
+fn end_text(end: RunEnd) -> &'static [u8]
+    ensures { result.now ≡ end_text end }
 {
-    let mut text = match end {
-        RunEnd::Idle => Bytes::from_slice(alloc, b"  idle")?,
-        RunEnd::Waiting(_) => Bytes::from_slice(alloc, b"  waiting")?,
-        RunEnd::Spent => Bytes::from_slice(alloc, b"  spent")?,
-    };
-    text.append(b" after ")?;
-    put_number(alloc, &mut text, turns)?;
-    text.append(turns_text(turns))?;
-    ended(text)
+    match end {
+        RunEnd::Idle => b"  idle",
+        RunEnd::Waiting(_) => b"  waiting",
+        RunEnd::Spent => b"  spent",
+    }
 }
 
 fn turns_text(turns: u64) -> &'static [u8]
     ensures { result.now ≡ turns_text turns }
 {
     if turns == 1 { b" turn" } else { b" turns" }
+}
+
+// How a RUN ended, after so many turns.
+fn put_end_line(alloc: Global, out: &mut Bytes, turns: u64, end: RunEnd) -> Result<(), OutOfMemory>
+    ensures { OnOk result (out.new ≡ out.old ++ end_line turns end) }
+{
+    out.append(end_text(end))?;
+    out.append(b" after ")?;
+    put_number(alloc, out, turns)?;
+    out.append(turns_text(turns))?;
+    out.push(b'\n')
 }
 
 /// What is printed of a command: in a trace the command.
@@ -315,26 +322,27 @@ pub(crate) fn asked_text(
 ) -> Result<Bytes, OutOfMemory>
     ensures { IfOk result (λ text. text ≡ asked_text traces command.now) }
 {
+    let mut text = Bytes::new(alloc);
     if traces {
-        command_line(alloc, command)
-    } else {
-        Ok(Bytes::new(alloc))
+        put_command_line(alloc, &mut text, command)?;
     }
+    Ok(text)
 }
 
 // What is printed of a turn itself, in a trace alone.
-fn turned_text(
+fn put_turned(
     alloc: Global,
+    out: &mut Bytes,
     traces: bool,
     source: &Source,
     turn: &TurnView,
-) -> Result<Bytes, OutOfMemory>
-    ensures { IfOk result (λ text. text ≡ turned_text traces source.now turn.now) }
+) -> Result<(), OutOfMemory>
+    ensures { OnOk result (out.new ≡ out.old ++ turned_text traces source.now turn.now) }
 {
     if traces {
-        turn_text(alloc, source, turn)
+        put_turn(alloc, out, source, turn)
     } else {
-        Ok(Bytes::new(alloc))
+        Ok(())
     }
 }
 
@@ -348,7 +356,8 @@ pub(crate) fn turn_and_acts_text(
 ) -> Result<Bytes, OutOfMemory>
     ensures { IfOk result (λ text. text ≡ turned_text traces source.now turn.now ++ acts_text traces acts.now) }
 {
-    let mut text = turned_text(alloc, traces, source, turn)?;
+    let mut text = Bytes::new(alloc);
+    put_turned(alloc, &mut text, traces, source, turn)?;
     put_acts(alloc, &mut text, traces, acts)?;
     Ok(text)
 }
@@ -371,9 +380,9 @@ pub(crate) fn over_text(
 ) -> Result<Bytes, OutOfMemory>
     ensures { IfOk result (λ text. text ≡ over_text traces turns end) }
 {
+    let mut text = Bytes::new(alloc);
     if traces {
-        end_line(alloc, turns, end)
-    } else {
-        Ok(Bytes::new(alloc))
+        put_end_line(alloc, &mut text, turns, end)?;
     }
+    Ok(text)
 }
