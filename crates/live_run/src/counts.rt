@@ -250,8 +250,8 @@ fn put_pages(alloc: Global, out: &mut Bytes, core: &Core) -> Result<(), OutOfMem
     out.push(b'\n')
 }
 
-fn put_waiting(alloc: Global, out: &mut Bytes, jobs: &[Job]) -> Result<(), OutOfMemory> {
-    for (to, count) in waiting(alloc, jobs)?.iter() {
+fn put_waits(alloc: Global, out: &mut Bytes, counts: &[(Target, u64)]) -> Result<(), OutOfMemory> {
+    for (to, count) in counts {
         match to {
             Target::Tac(tac) => put_named(alloc, out, b"JOBS T ", *tac, *count)?,
             Target::Lterm(lterm) => put_named(alloc, out, b"JOBS L ", *lterm, *count)?,
@@ -261,20 +261,56 @@ fn put_waiting(alloc: Global, out: &mut Bytes, jobs: &[Job]) -> Result<(), OutOf
     Ok(())
 }
 
-fn put_tac(alloc: Global, out: &mut Bytes, counts: &TacCounts) -> Result<(), OutOfMemory> {
+fn put_waiting(alloc: Global, out: &mut Bytes, jobs: &[Job]) -> Result<(), OutOfMemory> {
+    let counts = waiting(alloc, jobs)?;
+    put_waits(alloc, out, counts.as_slice())
+}
+
+fn put_dead(alloc: Global, out: &mut Bytes, counts: &TacCounts) -> Result<(), OutOfMemory> {
     if counts.dead > 0 {
         put_named(alloc, out, b"DEAD T ", counts.tac, counts.dead)?;
         out.append(b" DELIVERIES ")?;
         put_number(alloc, out, counts.deliveries)?;
         out.push(b'\n')?;
     }
-    if counts.late > 0 {
-        put_named(alloc, out, b"K04 T ", counts.tac, counts.late)?;
+    Ok(())
+}
+
+fn put_refused(
+    alloc: Global,
+    out: &mut Bytes,
+    word: &[u8],
+    tac: Name,
+    requests: u64,
+) -> Result<(), OutOfMemory> {
+    if requests > 0 {
+        put_named(alloc, out, word, tac, requests)?;
         out.push(b'\n')?;
     }
-    if counts.deadlocked > 0 {
-        put_named(alloc, out, b"K05 T ", counts.tac, counts.deadlocked)?;
-        out.push(b'\n')?;
+    Ok(())
+}
+
+fn put_tac(alloc: Global, out: &mut Bytes, counts: &TacCounts) -> Result<(), OutOfMemory> {
+    put_dead(alloc, out, counts)?;
+    put_refused(alloc, out, b"K04 T ", counts.tac, counts.late)?;
+    put_refused(alloc, out, b"K05 T ", counts.tac, counts.deadlocked)
+}
+
+fn put_counts(
+    alloc: Global,
+    out: &mut Bytes,
+    core: &Core,
+    counts: &Counts,
+) -> Result<(), OutOfMemory> {
+    let tables = core.tables();
+    put_pages(alloc, out, core)?;
+    put_count(alloc, out, b"SERVICES ", tables.services().len() as u64)?;
+    put_count(alloc, out, b"JOBS ", tables.jobs().len() as u64)?;
+    put_waiting(alloc, out, tables.jobs())?;
+    put_count(alloc, out, b"COMMITS ", counts.commits)?;
+    put_count(alloc, out, b"DUMPS ", counts.dumps)?;
+    for tac in counts.tacs.as_slice() {
+        put_tac(alloc, out, tac)?;
     }
     Ok(())
 }
@@ -288,21 +324,7 @@ pub(crate) fn count_lines(
     core: &Core,
     counts: &Counts,
 ) -> Result<Bytes, OutOfMemory> {
-    let tables = core.tables();
     let mut out = Bytes::new(alloc);
-    put_pages(alloc, &mut out, core)?;
-    put_count(
-        alloc,
-        &mut out,
-        b"SERVICES ",
-        tables.services().len() as u64,
-    )?;
-    put_count(alloc, &mut out, b"JOBS ", tables.jobs().len() as u64)?;
-    put_waiting(alloc, &mut out, tables.jobs())?;
-    put_count(alloc, &mut out, b"COMMITS ", counts.commits)?;
-    put_count(alloc, &mut out, b"DUMPS ", counts.dumps)?;
-    for tac in counts.tacs.as_slice() {
-        put_tac(alloc, &mut out, tac)?;
-    }
+    put_counts(alloc, &mut out, core, counts)?;
     Ok(out)
 }
