@@ -182,11 +182,11 @@ fn put_slot(page: &mut Vec<u8>, at: usize, slot: &Option<Chain>)
 }
 
 #[tactic(auto, unfolding(crate::specs::Layout::zeros))]
-// So many zero bytes.
-fn zero_page(alloc: Global, size: u32) -> Result<Vec<u8>, OutOfMemory>
-    ensures { IfOk result (λ v. v.items ≡ zeros size) }
+/// So many zero bytes.
+pub(crate) fn zero_bytes(alloc: Global, count: usize) -> Result<Vec<u8>, OutOfMemory>
+    ensures { IfOk result (λ v. v.items ≡ zeros count) }
 {
-    Ok(vec![in alloc; 0; size as usize]?)
+    Ok(vec![in alloc; 0; count]?)
 }
 
 // The slots of a directory page, as its bytes.
@@ -196,7 +196,7 @@ fn slots_page(alloc: Global, size: u32, slots: &[Option<Chain>]) -> Result<Bytes
     ensures bytes { IfOk result (λ b. b ≡ padded size (flat_map spelled_slot slots.now)) }
     ensures fits { OnOk result (length (flat_map spelled_slot slots.now) ≤ size) }
 {
-    let mut page = zero_page(alloc, size)?;
+    let mut page = zero_bytes(alloc, size as usize)?;
     for n in 0..slots.len() {
         put_slot(&mut page, 32 * n, &slots[n]);
     }

@@ -8,6 +8,7 @@ ghost use Rattle.kdcfile_layout.specs.Fresh.{after_gate, numbers as numbers_belo
 use crate::kdcfile_images::image::{Image, Root};
 use crate::kdcfile_images::root::root_bytes;
 use crate::page_pool::Pages;
+use crate::spell::zero_bytes;
 use crate::{directory_pages, make_file};
 use kd_base::OutOfMemory;
 use kd_device::{Device, DeviceError};
@@ -53,14 +54,6 @@ fn front_bytes(alloc: Global, blksize: u32, root: &[u8], gap: usize) -> Result<V
     add_root(&mut front, root)?;
     add_root(&mut front, root)?;
     Ok(front)
-}
-
-#[tactic(auto, unfolding(crate::specs::Layout::zeros))]
-/// So many zero bytes.
-fn zero_bytes(alloc: Global, count: usize) -> Result<Vec<u8>, OutOfMemory>
-    ensures { IfOk result (λ v. v.items ≡ zeros count) }
-{
-    Ok(vec![in alloc; 0; count]?)
 }
 
 /// These first bytes and then so many zero bytes, in parts of which those of zero bytes are no longer than this buffer.
