@@ -37,8 +37,26 @@ impl<'a, R: Files<File = File> + Print + Eprint + AllocGlobal> Model for FileDev
 }
 
 impl<'a, R: Files<File = File> + Print + Eprint + AllocGlobal> FileDevice<'a, R> {
-    /// A device with no file, for a program of this name, with which a line about a fault begins.
+    /// A device with no file, for a program of this name, with which a line about a fault begins. An attach makes a file
+    /// that is not there.
     pub fn new(rt: &'a R, program: &'static str) -> FileDevice<'a, R>
+        ensures disk { (device_of result).disk_faults ≡ 0 }
+        ensures line { (device_of result).line_faults ≡ 0 }
+        ensures told { (device_of result).told ≡ false }
+    {
+        FileDevice::attaching(rt, program, Mode::Whole)
+    }
+
+    /// The same, but an attach makes no file: one that is not there is as an empty one, and the first write makes it.
+    pub fn making_late(rt: &'a R, program: &'static str) -> FileDevice<'a, R>
+        ensures disk { (device_of result).disk_faults ≡ 0 }
+        ensures line { (device_of result).line_faults ≡ 0 }
+        ensures told { (device_of result).told ≡ false }
+    {
+        FileDevice::attaching(rt, program, Mode::Late)
+    }
+
+    fn attaching(rt: &'a R, program: &'static str, mode: Mode) -> FileDevice<'a, R>
         ensures disk { (device_of result).disk_faults ≡ 0 }
         ensures line { (device_of result).line_faults ≡ 0 }
         ensures told { (device_of result).told ≡ false }
@@ -46,7 +64,7 @@ impl<'a, R: Files<File = File> + Print + Eprint + AllocGlobal> FileDevice<'a, R>
         FileDevice {
             rt,
             program,
-            disk: DiskFile::new(rt.alloc(), program, Mode::Whole),
+            disk: DiskFile::new(rt.alloc(), program, mode),
             line_faults: 0,
             spare: Spare::none(),
         }

@@ -1,5 +1,5 @@
 //! The outside itself: a real file and the standard output as a device, two real files and the standard output as a
-//! twin, and the files of the current folder as a room.
+//! twin, the files of the current folder as a room, and a file that is copied to a new one.
 //!
 //! It stands on kd_base and kd_device. It is the trusted edge: no contract can say what a file, a power cut or
 //! a line really does, so its device, its twin and its room tell nothing of their content. What is proved of them is that each call
@@ -9,6 +9,7 @@
 //! the system below it.
 #![tactic(auto)]
 
+mod copying;
 mod count;
 mod device;
 mod disk;
@@ -18,6 +19,7 @@ mod spare;
 mod standard;
 mod twin;
 
+pub use copying::copy_to_new;
 pub use device::FileDevice;
 pub use room::FolderRoom;
 pub use standard::StandardDescriptors;
