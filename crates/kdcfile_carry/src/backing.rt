@@ -5,7 +5,7 @@ ghost use Rattle.kd_records.specs.{Charge.{total_charge}, Contents.{IsContent}};
 ghost use Rattle.laws_of_states.specs.Suits.{Suits};
 ghost use Rattle.kdcfile_store.specs.{Kept.{IsKept}, Paged.{HasFile}};
 ghost use Rattle.device_acts.specs.Stands.{AreTables, StandsForTables, identity_for};
-ghost use Rattle.kdcfile_double.specs.{Twice.{FrameBoth}, MakingLaws.{RestsBoth}};
+ghost use Rattle.kdcfile_double.specs.{Twice.{FrameBoth, NoneRose}, MakingLaws.{RestsBoth}};
 ghost use Rattle.kdcfile_update.specs.declared.kd_update.error.UpdateError.{UpdateError as Cause};
 ghost use Rattle.kdcfile_carry.specs.{Backing.{IsBackedUp, of_disk}, Doing.{RoseOnOne}, Files.{AreFiles, Files, HaveTwoMeanings}, Ways.{AreRefusedAs, AreSpent, MayCarry}};
 ghost use Rattle.kdcfile_carry.specs.declared.backing.BackUpError.TheVariants as errors;
@@ -221,10 +221,14 @@ pub fn back_up<T: Twin, D: Device>(
     // A file that is not empty stays as it is.
     ensures still { IsTrue (D.state to.old).told → ((D.state to.old).holds ≡ [] → ⊥) → (D.state to.new).holds ≡ (D.state to.old).holds }
 
+    ensures sent { IsTrue (D.state to.old).told → (D.state to.new).sent ≡ (D.state to.old).sent }
     ensures files_failed { IsErrOf result (BackUpError.Files FilesError.Failed) → RoseOnOne (T.both twin.old) (T.both twin.new) }
+    ensures files_fine { (IsErrOf result (BackUpError.Files FilesError.Failed) → ⊥) → NoneRose (T.both twin.old) (T.both twin.new) }
     ensures failed { IsErrOf result BackUpError.Failed → Rose (D.state to.old).disk_faults (D.state to.new).disk_faults }
+    ensures fine { (IsErrOf result BackUpError.Failed → ⊥) → SameFaults (D.state to.old) (D.state to.new) }
     ensures frame { FrameBoth (T.both twin.old) (T.both twin.new) }
     ensures to_frame { Frame (D.state to.old) (D.state to.new) }
+    ensures names { SameNames (D.state to.old) (D.state to.new) }
 {
     let kept = find(alloc, twin)?;
     match planned(alloc, generation, fingerprint, &kept)? {
