@@ -16,10 +16,10 @@ use Rattle.call_parts.specs.declared.words.Word.TheVariants.{Update}
 use Rattle.carry_cli.specs.Promise.{AsksToCarry, EndsCarry, EndsOver, RefusesTexts}
 use Rattle.carry_cli.specs.declared.words.Options.{Options}
 
-frame_none : (a : Both) → FrameTwin a a
+pub frame_none : (a : Both) → FrameTwin a a
 frame_none a = record { told = refl; first_faults = omega arith; second_faults = omega arith; line_faults = omega arith; moment = omega arith }
 
-same_none : (a : Both) → SameFiles a a
+pub same_none : (a : Both) → SameFiles a a
 same_none a = record { first_holds = refl; second_holds = refl; first_put = refl; second_put = refl }
 
 codes_over : (n : ℕ) → IsOneOf (0 ∷ 4 ∷ 5 ∷ 7 ∷ 10 ∷ []) n → IsOneOf (0 ∷ 2 ∷ 4 ∷ 5 ∷ 6 ∷ 7 ∷ 10 ∷ []) n
@@ -50,7 +50,7 @@ within_idle : (n : ℕ) → IsOneOf (0 ∷ 4 ∷ 10 ∷ []) n → IsOneOf (0 ∷
 within_idle n h = grind (arith, nat_tests)
 
 -- the line of a refusal was sent
-said_files : (line : List ℕ) (status : ℕ) (a b : Both) (n : ℕ) → SendsRefusalTwo status line a b n → IsTrue a.told → SameFiles a b
+pub said_files : (line : List ℕ) (status : ℕ) (a b : Both) (n : ℕ) → SendsRefusalTwo status line a b n → IsTrue a.told → SameFiles a b
 said_files line status a b n sends told = (sends.part told).files
 
 module _ (base : List ℕ) (o : Options) (r r' : RoomState) (a : Both) (la : ℕ → List ℕ → List ℕ → List ℕ → Type 0) where

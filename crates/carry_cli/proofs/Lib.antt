@@ -7,3 +7,4 @@ pub mod Carried
 pub mod Carries
 pub mod Lacking
 pub mod Over
+pub mod BackingUp

@@ -43,7 +43,7 @@ no_fault (answer.WouldCarry gone rows) is = absurd cc
 no_fault (answer.WouldDrop rows) is = absurd cc
 no_fault (answer.Hindered why) is = absurd cc
 
-rests_since : (a b s : Both) → SameFiles a b → SameFiles b s → SameFiles a s
+pub rests_since : (a b s : Both) → SameFiles a b → SameFiles b s → SameFiles a s
 rests_since a b s h k = record { first_holds = k.first_holds ∙ h.first_holds; second_holds = k.second_holds ∙ h.second_holds; first_put = k.first_put ∙ h.first_put; second_put = k.second_put ∙ h.second_put }
 
 module _ (e : Errand) (base : List ℕ) (o : Options) (a b : Both) (la lb : ℕ → List ℕ → List ℕ → List ℕ → Type 0) (sent_now : IsTrue a.told → (c d out : List ℕ) → la a.moment c d out → out ≡ a.sent)

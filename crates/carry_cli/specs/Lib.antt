@@ -8,3 +8,4 @@ pub mod Seeing
 pub mod Carrying
 pub mod Doing
 pub mod Promise
+pub mod BackingUp

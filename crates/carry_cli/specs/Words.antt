@@ -54,6 +54,24 @@ abbrev pub carry_of : List (List ℕ) → Option (List ℕ × Options)
 carry_of [] = None
 carry_of (base ∷ words) = carried_by (same base (codes "state")) (is_base base) base (options_of words)
 
+-- ---- the BASE that is backed up, and to what
+
+-- both are of a BASE's length, and the second is no option
+abbrev pub backup_by : (backup base to : Bool) → (option : Option Options) → List ℕ → List ℕ → Option (List ℕ × List ℕ)
+backup_by false is is_to o base to = None
+backup_by true false is_to o base to = None
+backup_by true true false o base to = None
+backup_by true true true (Some o) base to = None
+backup_by true true true None base to = Some (base, to)
+
+-- BASE and TO of `backup BASE TO`
+abbrev pub backup_of : List (List ℕ) → Option (List ℕ × List ℕ)
+backup_of [] = None
+backup_of (a ∷ []) = None
+backup_of (a ∷ b ∷ []) = None
+backup_of (word ∷ base ∷ to ∷ []) = backup_by (same word (codes "backup")) (is_base base) (is_base to) (with_option (Some plain) to) base to
+backup_of (a ∷ b ∷ c ∷ d ∷ rest) = None
+
 -- status 1
 abbrev pub carry_usage_line : List ℕ
-carry_usage_line = codes "USAGE: carry BASE [--drop] [--try] [--alone], carry state BASE\n"
+carry_usage_line = codes "USAGE: carry BASE [--drop] [--try] [--alone], carry state BASE, carry backup BASE TO\n"

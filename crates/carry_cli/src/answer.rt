@@ -113,7 +113,8 @@ fn judged_line(alloc: Global, why: UpdateError) -> Result<String, AllocError>
     }
 }
 
-fn hindrance_line(alloc: Global, why: Hindrance) -> Result<String, AllocError>
+/// Why files are not carried, or not backed up.
+pub(crate) fn hindrance_line(alloc: Global, why: Hindrance) -> Result<String, AllocError>
     ensures { IfOk result (λ line. string_bytes line ≡ hindrance_line why) }
 {
     match why {

@@ -5,7 +5,7 @@ ghost use Rattle.kdcfile_double.specs.{MakingLaws.{RestsBoth}, Mended.{BothRest}
 ghost use Rattle.kdcfile_carry.specs.{Doing.{AreEither, RoseOnOne}, Files.{AreFiles, Files}, Leaving.{StaysWithin}, Promise.{lost_of}, Ways.{IsTaken, files_after}};
 ghost use Rattle.kdcfile_carry.specs.declared.losing.Losses.TheVariants as losses;
 ghost use Rattle.call_parts.specs.{Asking.{update_errand}, LeavingTwo.{FrameTwin, MayAttachTwo}};
-ghost use Rattle.carry_cli.specs.{Carrying.{NoneIsMissing, generation_of}, Doing.{IsNow, hindered_by, judged_as}, Promise.{EndsOver}};
+ghost use Rattle.carry_cli.specs.{Carrying.{NoneIsMissing, generation_of}, Doing.{IsNow, hindered_by, hindrance_of, judged_as}, Promise.{EndsOver}};
 
 use crate::answer::{Answer, Hindrance};
 use crate::missing::find_missing;
@@ -19,25 +19,30 @@ use kdcs_types::Row;
 use refusals::Status;
 use std::alloc::Global;
 
-// A judgement as an answer.
-fn judged_as(why: UpdateError) -> Result<Answer, DeviceError>
+// A judgement as a hindrance.
+fn judged_as(why: UpdateError) -> Result<Hindrance, DeviceError>
     ensures { result ≡ judged_as why }
 {
     match why {
-        UpdateError::NotKdcfile => Ok(Answer::Hindered(Hindrance::Judged(UpdateError::NotKdcfile))),
-        UpdateError::OtherBlksize(n) => {
-            Ok(Answer::Hindered(Hindrance::Judged(UpdateError::OtherBlksize(n))))
-        }
-        UpdateError::SmallerPool(n) => {
-            Ok(Answer::Hindered(Hindrance::Judged(UpdateError::SmallerPool(n))))
-        }
-        UpdateError::TooManyGssbs(n) => {
-            Ok(Answer::Hindered(Hindrance::Judged(UpdateError::TooManyGssbs(n))))
-        }
-        UpdateError::TooLarge(n) => {
-            Ok(Answer::Hindered(Hindrance::Judged(UpdateError::TooLarge(n))))
-        }
+        UpdateError::NotKdcfile => Ok(Hindrance::Judged(UpdateError::NotKdcfile)),
+        UpdateError::OtherBlksize(n) => Ok(Hindrance::Judged(UpdateError::OtherBlksize(n))),
+        UpdateError::SmallerPool(n) => Ok(Hindrance::Judged(UpdateError::SmallerPool(n))),
+        UpdateError::TooManyGssbs(n) => Ok(Hindrance::Judged(UpdateError::TooManyGssbs(n))),
+        UpdateError::TooLarge(n) => Ok(Hindrance::Judged(UpdateError::TooLarge(n))),
         UpdateError::Memory => Err(DeviceError::Memory),
+    }
+}
+
+/// Why files are hindered.
+pub(crate) fn hindrance_of(why: FilesError) -> Result<Hindrance, DeviceError>
+    ensures { result ≡ hindrance_of why }
+{
+    match why {
+        FilesError::Refused(why) => judged_as(why),
+        FilesError::TwoMeanings => Ok(Hindrance::TwoMeanings),
+        FilesError::Spent(_) => Ok(Hindrance::Spent),
+        FilesError::Failed => Err(DeviceError::Failed),
+        FilesError::Memory => Err(DeviceError::Memory),
     }
 }
 
@@ -45,12 +50,9 @@ fn judged_as(why: UpdateError) -> Result<Answer, DeviceError>
 fn hindered_by(why: FilesError) -> Result<Answer, DeviceError>
     ensures { result ≡ hindered_by why }
 {
-    match why {
-        FilesError::Refused(why) => judged_as(why),
-        FilesError::TwoMeanings => Ok(Answer::Hindered(Hindrance::TwoMeanings)),
-        FilesError::Spent(_) => Ok(Answer::Hindered(Hindrance::Spent)),
-        FilesError::Failed => Err(DeviceError::Failed),
-        FilesError::Memory => Err(DeviceError::Memory),
+    match hindrance_of(why) {
+        Ok(why) => Ok(Answer::Hindered(why)),
+        Err(error) => Err(error),
     }
 }
 

@@ -2,7 +2,7 @@
 ghost use Rattle.std.specs.{Prelude.{◌≡◌, map, MatchOption, None, Some, codes}, String.{string_bytes}};
 ghost use Rattle.call_parts.specs.Words.{is_base};
 ghost use Rattle.script_read.specs.Script.{same};
-ghost use Rattle.carry_cli.specs.Words.{carried_by, carry_of, option_by, plain, state_of, with_option};
+ghost use Rattle.carry_cli.specs.Words.{backup_by, backup_of, carried_by, carry_of, option_by, plain, state_of, with_option};
 
 use call_parts::base_of;
 
@@ -135,6 +135,30 @@ pub(crate) fn carry_of(words: &[String]) -> Option<(&[u8], Options)>
             let options = with_option(options, two.as_bytes());
             carried(base.as_bytes(), with_option(options, three.as_bytes()))
         }
+        _ => None,
+    }
+}
+
+// BASE and TO, which is no option.
+#[tactic(auto, using(script_read::specs::SameLaws::same_texts))]
+fn backed_up<'a>(word: &[u8], base: &'a str, to: &'a str) -> Option<(&'a str, &'a str)>
+    ensures { MatchOption result (backup_by (same word.now (codes "backup")) (is_base base.now) (is_base to.now) (with_option (Some plain) to.now) base.now to.now ≡ None) (λ r. backup_by (same word.now (codes "backup")) (is_base base.now) (is_base to.now) (with_option (Some plain) to.now) base.now to.now ≡ Some (r.0.now, r.1.now)) }
+{
+    if word != b"backup".as_slice() || !is_base(base.as_bytes()) || !is_base(to.as_bytes()) {
+        return None;
+    }
+    match with_option(plain(), to.as_bytes()) {
+        Some(_) => None,
+        None => Some((base, to)),
+    }
+}
+
+/// BASE and TO of `backup BASE TO`, each of 1 to 200 bytes. TO is no option, as `--try`. All other words are no form of it.
+pub fn backup_of(words: &[String]) -> Option<(&str, &str)>
+    ensures { MatchOption result (backup_of (map string_bytes words.now) ≡ None) (λ r. backup_of (map string_bytes words.now) ≡ Some (r.0.now, r.1.now)) }
+{
+    match words {
+        [word, base, to] => backed_up(word.as_bytes(), base.as_str(), to.as_str()),
         _ => None,
     }
 }
