@@ -1,11 +1,13 @@
-//! The program `carry`: the top call over the files of the current folder and the standard output.
+//! The program `carry`: the top calls over the files of the current folder and the standard output.
 //!
-//! It stands on carry_cli, whose call `carry` carries all promises, and on kd_host, the trusted edge. The files are opened for
-//! reading alone by `state` and with `--try`; else one that is not there is made by the first write.
+//! It stands on carry_cli, whose calls `carry` and `backup` carry all promises, and on kd_host, the trusted edge. The files
+//! are opened for reading alone by `state`, by `backup` and with `--try`; else one that is not there is made by the first
+//! write. Before a backup its texts are copied, which no contract covers.
 #![tactic(auto)]
 
-use carry_cli::{There, carry};
-use kd_host::{FileTwin, FolderRoom, StandardDescriptors};
+use carry_cli::{There, backup, backup_of, carry};
+use kd_host::{FileDevice, FileTwin, FolderRoom, StandardDescriptors, copy_to_new};
+use std::fs::File;
 use std::io::ErrorKind;
 use std::process::ExitCode;
 use std::rt::Files;
@@ -13,6 +15,9 @@ use std::{env, fs, io};
 
 /// The exit status where descriptors 0 to 2 could not be kept from the files, or the words of the call could not be had.
 const NO_ANSWER: u8 = 9;
+
+/// The exit status where a text could not be copied.
+const NO_TEXT: u8 = 6;
 
 /// The words after the program's name.
 fn words(rt: &(impl env::Env + AllocGlobal)) -> Option<Vec<String>> {
@@ -57,6 +62,47 @@ fn only_reads(words: &[String]) -> bool {
     }
 }
 
+/// Carries the files of a BASE, or tells what they are.
+fn carried(rt: &HostRuntime, words: &Vec<String>) -> u8 {
+    let Ok(there) = there(rt, words) else {
+        return NO_ANSWER;
+    };
+    let mut room = FolderRoom::new(rt, "carry");
+    let mut twin = if only_reads(words) {
+        FileTwin::reading(rt, "carry")
+    } else {
+        FileTwin::making_late(rt, "carry")
+    };
+    carry(rt.alloc(), words, &mut room, &mut twin, there).code
+}
+
+/// Whether the text of the BASE with this ending was copied to that of TO, which was not there.
+fn copies_text(
+    rt: &(impl Files<File = File> + Eprint + AllocGlobal),
+    base: &str,
+    to: &str,
+    ending: &str,
+) -> io::Result<bool> {
+    let from = format!(in rt.alloc(); "{base}{ending}")?;
+    let new = format!(in rt.alloc(); "{to}{ending}")?;
+    Ok(copy_to_new(rt, "carry", &from, &new).is_ok())
+}
+
+/// Backs up the files of this BASE, with its texts.
+fn backed_up(rt: &HostRuntime, words: &Vec<String>, base: &str, to: &str) -> u8 {
+    for ending in [".def", ".units"] {
+        match copies_text(rt, base, to, ending) {
+            Ok(true) => {}
+            Ok(false) => return NO_TEXT,
+            Err(_) => return NO_ANSWER,
+        }
+    }
+    let mut room = FolderRoom::new(rt, "carry");
+    let mut twin = FileTwin::reading(rt, "carry");
+    let mut device = FileDevice::making_late(rt, "carry");
+    backup(rt.alloc(), words, &mut room, &mut twin, &mut device).code
+}
+
 fn main(rt: HostRuntime) -> ExitCode {
     let Ok(standard) = StandardDescriptors::take(&rt) else {
         return ExitCode::from(NO_ANSWER);
@@ -64,16 +110,10 @@ fn main(rt: HostRuntime) -> ExitCode {
     let Some(words) = words(&rt) else {
         return ExitCode::from(NO_ANSWER);
     };
-    let Ok(there) = there(&rt, &words) else {
-        return ExitCode::from(NO_ANSWER);
+    let code = match backup_of(&words) {
+        Some((base, to)) => backed_up(&rt, &words, base, to),
+        None => carried(&rt, &words),
     };
-    let mut room = FolderRoom::new(&rt, "carry");
-    let mut twin = if only_reads(&words) {
-        FileTwin::reading(&rt, "carry")
-    } else {
-        FileTwin::making_late(&rt, "carry")
-    };
-    let status = carry(rt.alloc(), &words, &mut room, &mut twin, there);
     drop(standard);
-    ExitCode::from(status.code)
+    ExitCode::from(code)
 }

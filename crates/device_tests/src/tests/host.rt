@@ -1,7 +1,7 @@
-//! kd_host: a real file, and the files of the current folder.
+//! kd_host: a real file, the files of the current folder, and a copy of one of them.
 
 use kd_device::{Device, Room};
-use kd_host::{FileDevice, FolderRoom};
+use kd_host::{FileDevice, FolderRoom, copy_to_new};
 use std::fs;
 use std::test::Fail;
 
@@ -64,5 +64,33 @@ fn a_folder_gives_its_texts(rt: HostRuntime) -> Result<(), Fail> {
             .read(rt.alloc(), &name, 3)
             .is_err()
     );
+    Ok(())
+}
+
+#[test]
+fn a_file_is_made_by_the_first_write(rt: HostRuntime) -> Result<(), Fail> {
+    let mut device = FileDevice::making_late(&rt, "utm");
+    device.reserve(2, 100, 100)?;
+    device.attach(b"low_tests_late.tmp")?;
+    assert!(rt; device.size()? == 0);
+    assert!(rt; fs::open(&rt, "low_tests_late.tmp").is_err());
+    device.write_at(0, b"abc")?;
+    assert!(rt; fs::read_to_string(&rt, "low_tests_late.tmp")?.as_str() == "abc");
+    fs::remove_file(&rt, "low_tests_late.tmp")?;
+    Ok(())
+}
+
+#[test]
+fn a_copy_is_made_once(rt: HostRuntime) -> Result<(), Fail> {
+    let (from, to) = ("low_tests_from.tmp", "low_tests_to.tmp");
+    assert!(rt; copy_to_new(&rt, "utm", from, to).is_err());
+    assert!(rt; fs::open(&rt, to).is_err());
+    fs::write(&rt, from, b"abc")?;
+    copy_to_new(&rt, "utm", from, to)?;
+    fs::write(&rt, from, b"other")?;
+    assert!(rt; copy_to_new(&rt, "utm", from, to).is_err());
+    assert!(rt; fs::read_to_string(&rt, to)?.as_str() == "abc");
+    fs::remove_file(&rt, from)?;
+    fs::remove_file(&rt, to)?;
     Ok(())
 }
