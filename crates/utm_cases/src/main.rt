@@ -5,10 +5,9 @@
 //! that the gate fails where a line is not met. The last text is wrong on purpose: a wrong line is seen.
 #![tactic(auto)]
 
-use carry_cli::{There, backup, backup_of, carry};
+use carry_cli::{There, carry};
 use case_text::{Cases, Program};
-use kd_base::Bytes;
-use kd_device::{MemDevice, MemRoom, MemTwin};
+use kd_device::{MemRoom, MemTwin};
 use std::alloc::{AllocError, Global};
 use std::{env, fs};
 use utm_cli::utm_twin;
@@ -28,25 +27,14 @@ fn behind(alloc: Global, words: &[String]) -> Result<Vec<String>, AllocError> {
     Ok(rest)
 }
 
-// A backup is made to an empty file in memory.
-fn call_backup(alloc: Global, words: &Vec<String>, room: &mut MemRoom, twin: &mut MemTwin) -> u8 {
-    match MemDevice::new(alloc, Bytes::new(alloc), Vec::new(alloc)) {
-        Ok(mut device) => backup(alloc, words, room, twin, &mut device).code,
-        Err(_) => OUT_OF_MEMORY,
-    }
-}
-
 fn call_carry(alloc: Global, words: &[String], room: &mut MemRoom, twin: &mut MemTwin) -> u8 {
-    let Ok(words) = behind(alloc, words) else {
-        return OUT_OF_MEMORY;
-    };
     let there = There {
         first: true,
         second: true,
     };
-    match backup_of(&words) {
-        Some(_) => call_backup(alloc, &words, room, twin),
-        None => carry(alloc, &words, room, twin, there).code,
+    match behind(alloc, words) {
+        Ok(words) => carry(alloc, &words, room, twin, there).code,
+        Err(_) => OUT_OF_MEMORY,
     }
 }
 
