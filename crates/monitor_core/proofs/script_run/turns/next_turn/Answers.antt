@@ -15,6 +15,6 @@ returns-then-idle-clause-idle g c =
 pub returns-clause-idle : goal.returns-clause-idle
 returns-clause-idle g c =
     elim c.if-free-2.branch [
-      then-free-2 w ↦ λ is. no_work c.args.core c.in_ok-next-2.next c.args.task c.in_ok-next-2.moved w.if-free-2.ensures c.in_ok-next-2.ensures.turned (unmoved_by c.in_ok-next-2.moved (sym w.idle-is ∙ is)) (g.met.S.Sink.goes.application _ _ _ _ _ c.in_ok-next-2.ensures.took)
-    | else-free-2 w ↦ λ is. absurd (true≢false (sym is ∙ w.idle-is ∙ w.if-free-2.false))
+      | then-free-2 w ↦ λ is. no_work c.args.core c.in_ok-next-2.next c.args.task c.in_ok-next-2.moved w.if-free-2.ensures c.in_ok-next-2.ensures.turned (unmoved_by c.in_ok-next-2.moved (sym w.idle-is ∙ is)) (g.met.S.Sink.goes.application _ _ _ _ _ c.in_ok-next-2.ensures.took)
+      | else-free-2 w ↦ λ is. absurd (true≢false (sym is ∙ w.idle-is ∙ w.if-free-2.false))
     ]
