@@ -4,7 +4,7 @@ A `Bench` has the texts of an application, a script that fills its KDCFILE, a sc
 measured, and the commands of one operation, which that script is followed by.
 """
 
-from dataclasses import dataclass, field
+from dataclasses import dataclass, field, replace
 from typing import Callable, List
 
 
@@ -242,4 +242,51 @@ def tasks(size: int) -> Bench:
                  lambda k: [f"IN P{count} HELLO"] + [f"TURN {count}"] * 4)
 
 
-ALL = [rows, jobs, users, areas, waiting, locks, tasks]
+MADE = """UNIT ADD
+FIELD v SPAB 0 8
+FIELD n SPAB 8 8
+INIT
+MGET v
+SGET GB 'CNT' n
+ADD n 1
+SPUT GB 'CNT' n
+FPUT 'TALLY' v
+MPUT n
+PEND FI
+END
+UNIT TALLY
+FIELD v SPAB 0 8
+FIELD n SPAB 8 8
+INIT
+FGET v
+SGET GB 'TOTAL' n
+ADD n v
+SPUT GB 'TOTAL' n
+PEND FI
+END
+"""
+
+
+def made(tasks: int, pgpool: int) -> Bench:
+    """The application of `make`: an input counts and makes a job, which adds it up, so it is two commits."""
+    definition = lines(
+        max_statement("MAKE", TASKS=tasks, KB=16, SPAB=64, NB=80, PGPOOL=pgpool, BLKSIZE="2K"),
+        "PROGRAM ADD", "PROGRAM TALLY", "TAC ADD,PROGRAM=ADD", "TAC TALLY,PROGRAM=TALLY,TYPE=A", *terminals(1), "END")
+    return Bench("", "", "a commit of the input of `make`", definition, MADE, [], signed_on(1),
+                 lambda k: [f"IN P1 ADD {k % 10}", "RUN 100"], counted=2)
+
+
+def idle(size: int) -> Bench:
+    """Tasks that have nothing to do."""
+    return replace(made(size, 64), name="idle", what="tasks, of which one has work")
+
+
+def pool(size: int) -> Bench:
+    """Pages of the pool, of which few are used."""
+    return replace(made(2, size), name="pool", what="pages of PGPOOL")
+
+
+ALL = [rows, jobs, users, areas, waiting, locks, tasks, idle, pool]
+
+# The two sizes of a bench that has its own, whatever N is.
+SIZES = {"idle": (2, 240), "pool": (64, 30000)}

@@ -4,7 +4,8 @@
     python3 bench/bench.py [--size N] [--program PATH] [NAME..]
 
 NAME is a bench of applications.py; without one all are run. Times are user time of the processor. Bytes written, write
-calls and syncs are counted by strace, where there is one. Nothing here passes or fails: it prints numbers.
+calls and syncs are counted by strace, and instructions by callgrind, where there are these. Nothing here passes or fails:
+it prints numbers.
 """
 
 import argparse
@@ -15,14 +16,15 @@ import sys
 import tempfile
 from dataclasses import dataclass
 from pathlib import Path
-from typing import List, Optional
+from typing import List, Optional, Tuple
 
-from applications import ALL, Bench, lines
+from applications import ALL, SIZES, Bench, lines
 
 TOP = Path(__file__).resolve().parent.parent
 BUILT = TOP / "crates" / "utm" / "out" / "utm"
 REPEATS = 3
 TRACED = 500   # operations whose calls are counted
+COUNTED = 300  # operations whose instructions are counted
 MEMORY = "/dev/shm"  # files there cost no time of a disk
 
 
@@ -33,6 +35,7 @@ class Usage:
     written: int     # bytes of the file
     writes: int      # calls
     syncs: int       # calls
+    instructions: int = 0
 
 
 class Failed(Exception):
@@ -67,6 +70,13 @@ def count_calls(program: Path, folder: Path, words: List[str], usage: Usage) -> 
     trace.unlink()
 
 
+def instructions_of(program: Path, folder: Path, words: List[str]) -> int:
+    """The instructions of the program, without those of the system's calls."""
+    counted = subprocess.run(["valgrind", "--tool=callgrind", "--callgrind-out-file=/dev/null", str(program), *words],
+                             cwd=folder, stdout=subprocess.DEVNULL, stderr=subprocess.PIPE, text=True, check=True)
+    return int(next(line.split(":")[1] for line in counted.stderr.splitlines() if "Collected" in line))
+
+
 def measured(program: Path, folder: Path, script: List[str]) -> Usage:
     """The least of some runs of a script, each on the same KDCFILE."""
     (folder / "app.script").write_text(lines(*script))
@@ -91,6 +101,15 @@ def traced(program: Path, folder: Path, script: List[str]) -> Usage:
     return usage
 
 
+def counted(program: Path, folder: Path, script: List[str]) -> int:
+    """The instructions of a script on the same KDCFILE; none where there is no valgrind."""
+    if not shutil.which("valgrind"):
+        return 0
+    (folder / "app.script").write_text(lines(*script))
+    shutil.copyfile(folder / "app.KDCA.kept", folder / "app.KDCA")
+    return instructions_of(program, folder, ["run", "app"])
+
+
 @dataclass
 class Result:
     filling: float   # seconds
@@ -100,6 +119,8 @@ class Result:
     written: float   # bytes an operation
     writes: float    # calls an operation
     syncs: float     # calls an operation
+    instructions: float  # an operation
+    opened: int      # instructions until the first operation
 
 
 def commands(bench: Bench, count: int) -> List[str]:
@@ -118,25 +139,31 @@ def run_bench(program: Path, bench: Bench) -> Result:
         whole = measured(program, folder, bench.before + commands(bench, bench.operations))
         few = min(TRACED, bench.operations)
         none, some = (traced(program, folder, bench.before + commands(bench, n)) for n in (0, few))
+        # (from some operations on, since the first ones make what the others find)
+        less = min(COUNTED, bench.operations) // 4
+        opened, one, more = (counted(program, folder, bench.before + commands(bench, n)) for n in (0, less, 4 * less))
     each = bench.counted or 1
     return Result(filling.user, opening, (whole.user - opening.user) / (each * bench.operations), whole.peak,
                   *((many - without) / (each * few) for many, without in
-                    ((some.written, none.written), (some.writes, none.writes), (some.syncs, none.syncs))))
+                    ((some.written, none.written), (some.writes, none.writes), (some.syncs, none.syncs))),
+                  (more - one) / (each * 3 * less), opened)
 
 
 def ratio(small: float, large: float) -> str:
     return f"{large / small:6.2f}" if small > 0 else "     -"
 
 
-def show(bench: Bench, size: int, small: Result, large: Result) -> None:
-    print(f"{bench.name}: {bench.operation}, with {size} and {10 * size} {bench.what}")
+def show(bench: Bench, sizes: Tuple[int, int], small: Result, large: Result) -> None:
+    print(f"{bench.name}: {bench.operation}, with {sizes[0]} and {sizes[1]} {bench.what}")
     rows = [
         ("microseconds of the processor, each", small.user * 1e6, large.user * 1e6),
+        ("instructions, each", small.instructions, large.instructions),
         ("bytes written, each", small.written, large.written),
         ("write calls, each", small.writes, large.writes),
         ("syncs, each", small.syncs, large.syncs),
         ("MB of memory at most", small.peak, large.peak),
         ("milliseconds until the first one", small.opening.user * 1e3, large.opening.user * 1e3),
+        ("instructions until the first one", small.opened, large.opened),
         ("milliseconds to fill the file", small.filling * 1e3, large.filling * 1e3),
     ]
     for name, first, second in rows:
@@ -155,8 +182,9 @@ def main() -> int:
     for make in ALL:
         if given.names and make.__name__ not in given.names:
             continue
-        small, large = make(given.size), make(10 * given.size)
-        show(small, given.size, run_bench(given.program, small), run_bench(given.program, large))
+        sizes = SIZES.get(make.__name__, (given.size, 10 * given.size))
+        small, large = (make(size) for size in sizes)
+        show(small, sizes, run_bench(given.program, small), run_bench(given.program, large))
     return 0
 
 
