@@ -69,18 +69,19 @@ builds() {
 gate_of() { if [ -f "$1" ]; then od -An -tx1 -N1 -- "$1" 2>/dev/null | tr -d ' '; fi; }
 
 # warns_of_halves BASE: warns where one of two copies is missing or empty. A copy of before that comes back later would
-# count beside none, and what was committed since then would be undone.
+# count beside none, and what was committed since then would be undone. It may also be a file by itself, under texts that
+# ask for two, or a making that never ended, which the program refuses.
 warns_of_halves() {
     if grep -qiE '^[[:space:]]*MAX[[:space:]].*DOUBLE' -- "$1.def" 2>/dev/null; then
         for pair in "A B" "B A"; do
             one=$1.KDC${pair% *} other=$1.KDC${pair#* }
             if [ "$(gate_of "$one")" = 4b ] && [ ! -s "$other" ]; then
                 [ -e "$other" ] && what='is empty' || what='is not there'
-                echo "$name: $other: $what beside a copy; docs/operating.md says when that is safe" >&2
+                echo "$name: $other: $what beside $one, a copy or a file by itself ('carry state' tells which); docs/operating.md says when that is safe" >&2
             fi
         done
     elif [ -s "$1.KDCB" ]; then
-        echo "$name: $1.KDCB: a second copy is there, and $1.def asks for one file" >&2
+        echo "$name: $1.KDCB: a second file is there, and $1.def asks for one ('carry state' tells what both are)" >&2
     fi
 }
 
