@@ -273,7 +273,7 @@ def made(tasks: int, pgpool: int) -> Bench:
         max_statement("MAKE", TASKS=tasks, KB=16, SPAB=64, NB=80, PGPOOL=pgpool, BLKSIZE="2K"),
         "PROGRAM ADD", "PROGRAM TALLY", "TAC ADD,PROGRAM=ADD", "TAC TALLY,PROGRAM=TALLY,TYPE=A", *terminals(1), "END")
     return Bench("", "", "a commit of the input of `make`", definition, MADE, [], signed_on(1),
-                 lambda k: [f"IN P1 ADD {k % 10}", "RUN 100"], counted=2)
+                 lambda k: [f"IN P1 ADD {k % 10}", "RUN 20000"], counted=2)
 
 
 def idle(size: int) -> Bench:
