@@ -9,3 +9,4 @@ pub mod access_rules;
 pub mod area_locks;
 pub mod output_lines;
 pub mod session_table;
+pub mod task_units;
