@@ -16,7 +16,6 @@ use service_ends::step_scheduler::{Scheduler, class_of};
 use std::alloc::Global;
 
 // The task has the class of the TAC that its service runs now; it has that of the TAC that ran before, which may be the same.
-#[tactic(auto, using(crate::specs::SteppingLaws::class_stays))]
 fn keep_class(
     generation: &Generation,
     scheduler: &mut Scheduler,

@@ -1,6 +1,7 @@
 use Rattle.std.specs.Prelude.{is_some, refl}
 use Rattle.std.proofs.Common.{ap, ◌∙◌}
 use Rattle.abstract_monitor.specs.Picks.{class_of}
+use Rattle.open_transaction.specs.declared.open.OpenTransaction.{OpenTransaction}
 use Rattle.open_transaction.specs.Transactions.{boxed_transaction}
 use Rattle.service_ends.specs.KeptLaws.{none_found}
 use Rattle.monitor_core.specs.StatedLaws.{can_go_on, fits_count, holds_just, indexed_of, indexed_with, is_there, owned, state_with, then_exact, then_for, then_indexed}
@@ -46,7 +47,24 @@ returns-clause-exact c =
     c.do_statement.new.locks c.in_ok-happened.happened (rw (c.deref_mut.ensures.value, c.run.ensures) at c.in_ok-happened.ensures.exact)
 
 pub returns-clause-state : goal.returns-clause-state
-returns-clause-state c = λ x e. ?state
+returns-clause-state c = λ x e.
+    let p = c.args.parts.now in
+    let after = record c.in-Some.transaction.now { value = c.do_statement.new.transaction } in
+    let class = class_of p.generation c.deref-2.result.now.current in
+    state_with (record (stepped p c.args.task c.args.id.now after c.do_statement.new.locks class) { units = c.run.new.self }) c.keep_class.new.scheduler c.keep_class.ensures
+    ∙ then_for p c.args.task c.args.id.now c.in-Some.transaction.now after c.requires.whole.indexed c.requires.whole.facts c.requires.held c.in-Some.ensures.value
+    c.do_statement.new.locks c.in_ok-happened.happened (rw (c.deref_mut.ensures.value, c.run.ensures) at c.in_ok-happened.ensures.exact) class (rw (c.deref_mut.ensures.value, c.run.ensures) at c.in_ok-happened.ensures.waits) x e
 
 pub returns-clause-indexed : goal.returns-clause-indexed
-returns-clause-indexed c = ?indexed
+returns-clause-indexed c =
+    let p = c.args.parts.now in
+    let after = record c.in-Some.transaction.now { value = c.do_statement.new.transaction } in
+    let class = class_of p.generation c.deref-2.result.now.current in
+    let parts = stepped p c.args.task c.args.id.now after c.do_statement.new.locks class in
+    indexed_with (record parts { units = c.run.new.self }) c.keep_class.new.scheduler c.keep_class.ensures
+    (
+    indexed_of parts c.run.new.self c.run.ensures
+    (then_indexed p c.args.task c.args.id.now c.in-Some.transaction.now after c.requires.whole.indexed c.requires.whole.facts c.requires.held c.in-Some.ensures.value
+    c.do_statement.new.locks c.in_ok-happened.happened (rw (c.deref_mut.ensures.value, c.run.ensures) at c.in_ok-happened.ensures.exact) class (ap (λ (t : OpenTransaction). class_of p.generation t.current) c.deref-2.ensures)
+    (rw c.deref_mut.ensures.value at c.in_ok-happened.ensures.holders) (rw c.deref_mut.ensures.value at c.in_ok-happened.ensures.id) (rw c.deref_mut.ensures.value at c.in_ok-happened.ensures.nb) (rw c.deref_mut.ensures.value at c.in_ok-happened.ensures.counted))
+    )
