@@ -1,6 +1,6 @@
 -- A row that is not there and goes leaves the tables as they are.
-use Rattle.std.specs.Prelude.{◌≡◌, refl, true, cond, List, [], ◌∷◌, Option, Some, None, is_some}
-use Rattle.std.proofs.Common.{ap, inl, inr, ◌∙◌, sym, true≢false}
+use Rattle.std.specs.Prelude.{◌≡◌, refl, List, [], ◌∷◌, None, is_some}
+use Rattle.std.proofs.Common.{ap, inl, inr, true≢false}
 use Rattle.std.proofs.lemmas.Bool.{cases_Bool}
 use Rattle.kdcs_types.specs.declared.key.Key.{Key}
 use Rattle.kdcs_types.specs.declared.key.Key.TheVariants as key

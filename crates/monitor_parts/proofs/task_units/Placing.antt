@@ -1,6 +1,6 @@
 -- The unit of a name is the first one of its own name.
-use Rattle.std.proofs.Common.{◌≡◌, ℕ, List, true, refl, sym, ap, ◌∙◌}
-use Rattle.std.specs.Prelude.{Option, Some, None, bytes_eq, slice_get, find}
+use Rattle.std.proofs.Common.{◌≡◌, ℕ, List, sym, ap, ◌∙◌}
+use Rattle.std.specs.Prelude.{Option, Some, None, bytes_eq, option_and_then, slice_get}
 use Rattle.std.specs.List.{position_from}
 use Rattle.std.proofs.lemmas.Slice.Eq.{bytes_eq-Decides}
 use Rattle.kd_base.specs.ToolsLaws.{find_passes}
@@ -20,8 +20,9 @@ pub unit_placed : (fitted : FittedUnits) (tac : List ℕ) (u : UnitText) (place 
 unit_placed fitted tac u place e at = there ∙ by (entry_of fitted.tacs tac) e
   where
     there : slice_get fitted.units place ≡ unit_named fitted.units u.name
-    there = ap (Rattle.std.specs.Prelude.option_and_then (slice_get fitted.units)) at ∙ found_at (λ (v : UnitText). bytes_eq u.name v.name) fitted.units
-    by : (entry : Option TacEntry) → Some u ≡ Rattle.std.specs.Prelude.option_and_then (λ (t : TacEntry). unit_named fitted.units t.program) entry
-        → unit_named fitted.units u.name ≡ Rattle.std.specs.Prelude.option_and_then (λ (t : TacEntry). unit_named fitted.units t.program) entry
+    there = ap (option_and_then (slice_get fitted.units)) at ∙ found_at (λ (v : UnitText). bytes_eq u.name v.name) fitted.units
+
+    by : (entry : Option TacEntry) → Some u ≡ option_and_then (λ (t : TacEntry). unit_named fitted.units t.program) entry
+        → unit_named fitted.units u.name ≡ option_and_then (λ (t : TacEntry). unit_named fitted.units t.program) entry
     by None h = absurd cc
     by (Some t) h = named_again fitted.units t.program u (sym h) ∙ h

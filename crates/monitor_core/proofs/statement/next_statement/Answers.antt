@@ -1,4 +1,4 @@
-use Rattle.std.specs.Prelude.{is_some, refl}
+use Rattle.std.specs.Prelude.{is_some}
 use Rattle.std.proofs.Common.{ap, ◌∙◌}
 use Rattle.abstract_monitor.specs.Picks.{class_of}
 use Rattle.open_transaction.specs.declared.open.OpenTransaction.{OpenTransaction}

@@ -1,4 +1,4 @@
-use Rattle.std.proofs.Common.{ap, ◌∙◌}
+use Rattle.std.proofs.Common.{◌∙◌}
 use Rattle.monitor_parts.proofs.task_units.Placing.{unit_placed}
 use Rattle.monitor_parts.proofs.task_units.TaskUnits.place_of.Goals as goal
 
