@@ -9,6 +9,7 @@ use Rattle.kdcs_types.specs.Keys.{id_cmp}
 use Rattle.kdcs_calls.specs.Calling.{HoldersMatch, HoldsJust}
 use Rattle.kd_base.specs.MappedLaws.{find_mapped}
 use Rattle.open_transaction.specs.Transactions.{Boxed, boxed_transaction}
+use Rattle.application_types.specs.Fitted.{FittedUnits}
 use Rattle.service_ends.specs.Schedule.{Schedule}
 use Rattle.abstract_monitor.specs.declared.answer.Happened.{Happened}
 use Rattle.abstract_monitor.specs.declared.answer.Happened.TheVariants.{Went, Queued, Waited, Held, Settles, Breaks, Returns}
@@ -130,3 +131,7 @@ state_with q schedule e = ap (λ (s : Schedule). state_of (with_schedule q s)) e
 
 pub indexed_with : (q : MonitorParts) (schedule : Schedule) → schedule ≡ q.scheduler → IsIndexed q → IsIndexed (with_schedule q schedule)
 indexed_with q schedule e h = subst (λ (s : Schedule). IsIndexed (with_schedule q s)) (sym e) h
+
+-- and other units that are the same
+pub indexed_of : (q : MonitorParts) (units : FittedUnits) → units ≡ q.units → IsIndexed q → IsIndexed (record q { units = units })
+indexed_of q units e h = subst (λ (u : FittedUnits). IsIndexed (record q { units = u })) (sym e) h

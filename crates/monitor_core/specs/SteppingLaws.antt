@@ -1,5 +1,5 @@
 -- The parts after a statement of a service in a task.
-use Rattle.std.specs.Prelude.{◌≡◌, refl, ◌+◌, ◌-◌, ℕ, zero, suc, Bool, true, false, List, [], ◌∷◌, map, Option, Some, None, is_some, option_map, slice_get, slice_set}
+use Rattle.std.specs.Prelude.{◌≡◌, refl, ◌+◌, ◌-◌, ℕ, zero, suc, Bool, true, false, List, [], ◌∷◌, map, Option, Some, None, IfSome, is_some, option_map, slice_get, slice_set}
 use Rattle.std.specs.List.{list_any}
 use Rattle.std.proofs.Common.{ap, sym, subst, ◌∙◌, true≢false, arith}
 use Rattle.std.proofs.lemmas.Option.{slice_get-map}
@@ -11,7 +11,7 @@ use Rattle.kdcs_types.specs.declared.key.ServiceId.{ServiceId}
 use Rattle.kdcs_types.specs.Keys.{id_cmp, id_eq}
 use Rattle.kd_base.specs.MappedLaws.{put_mapped}
 use Rattle.open_transaction.specs.Transactions.{Boxed, boxed_transaction}
-use Rattle.service_ends.specs.Schedule.{place_by, place_of, service_in, with_class, with_place}
+use Rattle.service_ends.specs.Schedule.{Schedule, place_by, place_of, service_in, with_class, with_place}
 use Rattle.abstract_monitor.specs.declared.answer.Happened.{Happened}
 use Rattle.abstract_monitor.specs.declared.answer.Happened.TheVariants.{Went, Queued, Waited, Held, Settles, Breaks, Returns}
 use Rattle.abstract_monitor.specs.declared.answer.Called.{Called}
@@ -118,6 +118,34 @@ is_seated places n id at = by (slice_get places n) (sym (slice_get-map service_i
     by None e = absurd (true≢false (sym (ap is_some e)))
     by (Some None) e = absurd (true≢false (sym (ap is_some (some_is (service_in None) (Some id) e))))
     by (Some (Some q)) e = refl
+
+-- the same class changes nothing
+pub class_stays : (s : Schedule) (task class : ℕ) → is_some (place_of task s) ≡ true → IfSome (place_of task s) (λ (e : Classed). e.1 ≡ class) → with_place task (with_class class (place_of task s)) s ≡ s
+class_stays s task class held has = by (slice_get s.places (task - 1)) refl held has
+  where
+    by : (o : Option (Option Classed)) → slice_get s.places (task - 1) ≡ o → is_some (place_by o) ≡ true → IfSome (place_by o) (λ (e : Classed). e.1 ≡ class) → with_place task (with_class class (place_by o)) s ≡ s
+    by None e h c = absurd (true≢false (sym h))
+    by (Some None) e h c = absurd (true≢false (sym h))
+    by (Some (Some q)) e h c = ap (λ (ps : List (Option Classed)). record s { places = ps }) (ap (λ (n : ℕ). slice_set s.places (task - 1) (Some (q.0, n))) (sym c) ∙ set_same s.places (task - 1) (Some q) e)
+
+each_at : {X : Type 0} (P : X → Type 0) (xs : List X) (n : ℕ) (y : X) → Each P xs → slice_get xs n ≡ Some y → P y
+each_at P [] n y ps e = absurd (true≢false (sym (ap is_some e)))
+each_at P (x ∷ xs) zero y ps e = subst P (some_is x y e) ps.0
+each_at P (x ∷ xs) (suc n) y ps e = each_at P xs n y ps.1 e
+
+-- the task of a service has the class of its TAC
+pub seated_class : (p : MonitorParts) (task : ℕ) (id : ServiceId) (x : OpenTransaction) → IsIndexed p → slice_get (state_of p).tasks (task - 1) ≡ Some (Some id) → find id_cmp id (state_of p).active ≡ Some x → IfSome (place_of task p.scheduler) (λ (e : Classed). e.1 ≡ class_of p.generation x.current)
+seated_class p task id x h at is = by (slice_get p.scheduler.places (task - 1)) refl
+  where
+    by : (o : Option (Option Classed)) → slice_get p.scheduler.places (task - 1) ≡ o → IfSome (place_by o) (λ (e : Classed). e.1 ≡ class_of p.generation x.current)
+    by None e = tt
+    by (Some None) e = tt
+    by (Some (Some q)) e =
+        let there : Some (Some q.0) ≡ Some (Some id) = ap (option_map service_in) (sym e) ∙ sym (slice_get-map service_in p.scheduler.places (task - 1)) ∙ at in
+        let same : q.0 ≡ id = some_is q.0 id (some_is (Some q.0) (Some id) there) in
+        each_at (PlaceHasClass p.generation (active_of p.active)) p.scheduler.places (task - 1) (Some q) h.places e
+        ∙ ap (λ (i : ServiceId). class_of p.generation (current_by (find id_cmp i (active_of p.active)))) same
+        ∙ ap (λ (o : Option OpenTransaction). class_of p.generation (current_by o)) is
 
 pub one_more : (g : Generated) (n : ℕ) (es : List (ServiceId × Boxed)) → Each (IsOwned g n) es → Each (IsOwned g (n + 1)) es
 one_more g n [] h = tt

@@ -14,6 +14,7 @@ use kd_base::sorted_pairs::OrderedMap;
 use kdcs_types::{Service, ServiceId, Tables};
 use monitor_parts::area_locks::LockTable;
 use monitor_parts::session_table::Sessions;
+use monitor_parts::task_units::TaskUnits;
 use open_transaction::async_queue::Jobs;
 use service_ends::core_state::MonitorParts;
 use service_ends::go_on;
@@ -39,7 +40,7 @@ fn queues(
 fn idle(
     alloc: Global,
     generation: Generation,
-    units: Units,
+    units: TaskUnits,
     tables: Tables,
     scheduler: Scheduler,
     jobs: Jobs,
@@ -152,6 +153,7 @@ pub(crate) fn parts_of(
 {
     let _clock = tables.clock(); // for the proof
     let (scheduler, jobs) = queues(alloc, &generation, &tables)?;
+    let units = TaskUnits::of(alloc, units, generation.max().tasks)?;
     let resting = idle(alloc, generation, units, tables, scheduler, jobs);
     let mut parts = Box::new(alloc, resting)?;
     open_services(&mut parts, alloc)?;

@@ -4,3 +4,4 @@ pub mod Inputs
 pub mod Parts
 pub mod SameLocksLaws
 pub mod Signed
+pub mod UnitPlaces

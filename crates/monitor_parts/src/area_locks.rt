@@ -124,10 +124,13 @@ impl LockTable {
     }
 
     /// Ends the wait of a service. It takes no memory.
+    #[tactic(auto, using(crate::proofs::area_locks::Freeing::none_waits))]
     pub fn end_wait(&mut self, who: ServiceId)
         ensures { self.new ≡ without_wait self.old who }
     {
-        self.waits.remove(&who);
+        if self.waits.len() > 0 {
+            self.waits.remove(&who);
+        }
     }
 
     /// Gives back all that a service holds, area by area, and ends its wait. It looks at no area of another service,
@@ -185,7 +188,7 @@ impl LockTable {
             LockAnswer::Granted => self.grant(who, area)?,
             LockAnswer::Busy | LockAnswer::Deadlock => {}
         }
-        self.waits.remove(who);
+        self.end_wait(*who);
         Ok(())
     }
 

@@ -1,7 +1,7 @@
 //! Rows of services, and services that go on from them.
-ghost use Rattle.std.specs.{Prelude.{◌≡◌, ◌++◌, ◌∷◌, [], false, Some, None, IfOk, OnOk}, FinMap.{find}};
+ghost use Rattle.std.specs.{Prelude.{◌≡◌, ◌++◌, ◌∷◌, [], false, true, Some, None, IfOk, IsTrue, OnOk}, FinMap.{find}};
 ghost use Rattle.kdcs_types.specs.{Keys.{id_cmp}, declared.act.Act.TheVariants.{Commit}, Tables.{AreChanges}};
-ghost use Rattle.abstract_monitor.specs.{Endings.{header_of_row, opened_by_row, service_change, user_in_row, with_service}, Sessions.{is_running}, Turns.{queued}};
+ghost use Rattle.abstract_monitor.specs.{Endings.{header_of_row, is_durable, opened_by_row, service_change, user_in_row, with_service}, Sessions.{is_running}, Turns.{queued}};
 ghost use Rattle.open_transaction.specs.Transactions.{HasOrder};
 ghost use Rattle.service_ends.specs.Standing.{IsIndexed, SameApplication, state_of};
 ghost use Rattle.table_fit.specs.Pages.{FitPool};
@@ -51,6 +51,46 @@ pub fn set_row(
     parts.change(&changes)
 }
 
+// The service has no row in the tables, and is to have none.
+#[tactic(auto, using(crate::proofs::Rows::none_goes))]
+fn has_and_keeps_none(tables: &Tables, id: ServiceId, row: &Option<Service>) -> bool
+    ensures { IsTrue result → with_service tables.now id row.now ≡ tables.now }
+{
+    match row {
+        None => match tables.service(id) {
+            None => true,
+            Some(_) => false,
+        },
+        Some(_) => false,
+    }
+}
+
+// The service has this row in the tables, or none, behind the changes of a commit. These lack the row of a service that no
+// stop leaves, and have any other.
+fn complete_row(
+    parts: &mut MonitorParts,
+    alloc: Global,
+    id: &ServiceId,
+    row: &Option<Service>,
+) -> Result<(), OutOfMemory>
+    requires indexed { IsIndexed parts.old }
+    requires fits { AreChanges (service_change id.now row.now ∷ []) }
+    requires alone { is_durable parts.old.generation id.now ≡ true → parts.old.tables ≡ with_service parts.old.tables id.now row.now }
+    requires before { FitPool parts.old.generation parts.old.tables }
+    requires after { FitPool parts.old.generation (with_service parts.old.tables id.now row.now) }
+    ensures indexed { OnOk result (IsIndexed parts.new) }
+    ensures same { OnOk result (SameApplication parts.old parts.new) }
+    ensures state { OnOk result (state_of parts.new ≡ record (state_of parts.old) { tables = with_service parts.old.tables id.now row.now }) }
+{
+    if has_and_keeps_none(&parts.tables, *id, row) {
+        return Ok(());
+    }
+    if is_durable(&parts.generation, *id) {
+        return Ok(());
+    }
+    set_row(parts, alloc, id, row)
+}
+
 /// A commit: the changes of the durable tables, and the row of its service, which is also in the tables where no stop leaves
 /// it.
 pub(crate) fn commit(
@@ -69,10 +109,7 @@ pub(crate) fn commit(
     ensures acts { OnOk result (acts.new ≡ acts.old ++ Commit changes ∷ []) }
 {
     parts.change(&changes)?;
-    // The changes lack the row of a service that no stop leaves, and have any other.
-    if !is_durable(&parts.generation, *id) {
-        set_row(parts, alloc, id, row)?;
-    }
+    complete_row(parts, alloc, id, row)?;
     acts.push(Act::Commit(changes))?;
     Ok(())
 }

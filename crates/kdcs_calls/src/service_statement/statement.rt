@@ -1,5 +1,5 @@
 //! The next statement of a service.
-ghost use Rattle.std.specs.Prelude.{◌≡◌, ◌+◌, ◌≤◌, ◌<◌, ◌^◌, IfOk, OnOk};
+ghost use Rattle.std.specs.Prelude.{◌≡◌, ◌+◌, ◌≤◌, ◌<◌, ◌^◌, IfOk, OnOk, Some};
 ghost use Rattle.kdcs_calls.specs.Calling.{HoldersMatch, HoldsJust};
 ghost use Rattle.laws_of_states.specs.{Applications.{IsApplication}, Transactions.{CanGoOn}};
 ghost use Rattle.laws_of_states.specs.PointLaws.{AreSound};
@@ -7,7 +7,7 @@ ghost use Rattle.open_transaction.specs.Transactions.{transaction_of};
 ghost use Rattle.abstract_monitor.specs.{Ready.{IsReady}, Statement.{step}};
 ghost use Rattle.service_parts.specs.Answers.{meaning_of};
 ghost use Rattle.laws_of_runs.specs.Applied.{applied};
-ghost use Rattle.application_types.specs.Fitted.{IsFit};
+ghost use Rattle.application_types.specs.Fitted.{IsFit, unit_of};
 ghost use Rattle.kdcs_calls.specs.Stating.{StepLeaves, WaitsAfter, stated_now, waits_after};
 
 use crate::service_statement::call::perform_call;
@@ -16,10 +16,10 @@ use crate::service_statement::waits::end_wait;
 use abstract_monitor::Happened;
 use application_types::generation::Generation;
 use application_types::unit_types::Unit;
-use application_types::units::Units;
 use kd_base::OutOfMemory;
 use kdcs_types::{Ending, Tables};
 use monitor_parts::area_locks::LockTable;
+use monitor_parts::task_units::TaskUnits;
 use open_transaction::OpenTransaction;
 use service_parts::unit_step::{Stepped, step};
 use std::alloc::Global;
@@ -44,13 +44,15 @@ pub fn step_unit(
     Ok(stepped)
 }
 
-// The next statement, but for the end of a wait.
+// The next statement of the unit that runs, but for the end of a wait.
 fn next_statement(
     outside: &Outside,
+    unit: &Unit,
     locks: &mut LockTable,
     transaction: &mut OpenTransaction,
 ) -> Result<Happened, OutOfMemory>
     requires fit { IsFit outside.now.generation.now outside.now.units.now }
+    requires unit { Some unit.now ≡ unit_of outside.now.units.now transaction.old.current }
     requires application { IsApplication (applied outside.now.generation.now outside.now.units.now) }
     requires can { CanGoOn outside.now.generation.now transaction.old.id (transaction_of transaction.old) }
     requires sound { AreSound outside.now.generation.now outside.now.tables.now }
@@ -64,9 +66,6 @@ fn next_statement(
     ensures nb { transaction.new.messages.nb ≡ transaction.old.messages.nb }
     ensures counted { OnOk result (transaction.new.statements ≤ transaction.old.statements + 1) }
 {
-    let Some(unit) = outside.units.unit_of(transaction.current) else {
-        unreachable!()
-    };
     match step_unit(outside.alloc, unit, transaction)? {
         Stepped::Plain => Ok(Happened::Went),
         Stepped::Asks(call) => {
@@ -85,7 +84,7 @@ fn next_statement(
 pub fn do_statement<'a>(
     alloc: Global,
     generation: &'a Generation,
-    units: &'a Units,
+    units: &'a TaskUnits,
     tables: &'a Tables,
     locks: &mut LockTable,
     transaction: &mut OpenTransaction,
@@ -105,13 +104,16 @@ pub fn do_statement<'a>(
     ensures nb { transaction.new.messages.nb ≡ transaction.old.messages.nb }
     ensures counted { OnOk result (transaction.new.statements ≤ transaction.old.statements + 1) }
 {
+    let Some(unit) = units.unit_of(transaction.current) else {
+        unreachable!()
+    };
     let outside = Outside {
         alloc,
         generation,
-        units,
+        units: units.units(),
         tables,
     };
-    let happened = next_statement(&outside, locks, transaction)?;
+    let happened = next_statement(&outside, unit, locks, transaction)?;
     end_wait(locks, transaction.id, &happened);
     Ok(happened)
 }

@@ -1,6 +1,7 @@
 -- A service gives back area by area, until it holds none.
-use Rattle.std.specs.Prelude.{◌≡◌, ◌<◌, ◌+◌, refl, Bool, true, false, cond, not, IsTrue, length, is_some, Option, Some, None}
+use Rattle.std.specs.Prelude.{◌≡◌, ◌<◌, ◌+◌, refl, Bool, true, false, cond, not, IsTrue, List, [], length, is_some, Option, Some, None}
 use Rattle.std.proofs.Common.{ap, arith, sym, ◌∙◌, true≢false}
+use Rattle.std.proofs.lemmas.List.{nil_from_length}
 use Rattle.std.specs.FinMap.{is_sorted}
 use Rattle.std.specs.FinMap.Entries.{length_without, same_entries}
 use Rattle.kd_base.specs.OrderLaws.{holds}
@@ -9,7 +10,7 @@ use Rattle.kdcs_types.specs.declared.key.Area.{Area}
 use Rattle.kdcs_types.specs.declared.key.ServiceId.{ServiceId}
 use Rattle.kdcs_types.specs.KeyLaws.{area_eq_same, area_total, same_area}
 use Rattle.kdcs_types.specs.Keys.{area_cmp, area_eq, id_eq}
-use Rattle.abstract_monitor.specs.Locks.{Locks, holder}
+use Rattle.abstract_monitor.specs.Locks.{Locks, Waiting, holder}
 use Rattle.monitor_parts.specs.Asked.{freed, given_back, holds_area, is_holder, other_than, unlocked, without_holder, without_wait}
 use Rattle.monitor_parts.proofs.area_locks.Holders.{holder_freed, holder_given_back}
 
@@ -18,6 +19,12 @@ pub record Frees (before now : Locks) (who : ServiceId) : Type 0 where
   pub ascending : IsTrue (is_sorted area_cmp before.holders)
   pub waits : now.waits ≡ (without_wait before who).waits
   pub others : (a : Area) → other_than who (holder now a) ≡ other_than who (holder before a)
+
+-- where nobody waits, no wait ends
+pub none_waits : (l : Locks) (who : ServiceId) → length l.waits ≡ 0 → l ≡ without_wait l who
+none_waits l who e =
+    let none : l.waits ≡ [] = nil_from_length l.waits e in
+    ap (λ (ws : List (ServiceId × Waiting)). record l { waits = ws }) (none ∙ sym (ap (λ (ws : List (ServiceId × Waiting)). (without_wait (record l { waits = ws }) who).waits) none))
 
 own_gone : (o : Option ServiceId) (who : ServiceId) → is_holder o who ≡ true → None ≡ other_than who o
 own_gone None who e = absurd (true≢false (sym e))

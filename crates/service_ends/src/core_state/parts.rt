@@ -8,13 +8,14 @@ use kd_base::sorted_pairs::OrderedMap;
 use kdcs_types::{ServiceId, Tables};
 use monitor_parts::area_locks::LockTable;
 use monitor_parts::session_table::Sessions;
+use monitor_parts::task_units::TaskUnits;
 use open_transaction::OpenTransaction;
 use open_transaction::async_queue::Jobs;
 
 /// All that a monitor has between two steps. Contracts see all fields; `state_of` is the state that they stand for.
 pub struct MonitorParts {
     pub generation: Generation,
-    pub units: Units,
+    pub units: TaskUnits,
     /// How many turns and commands it has done.
     pub steps: u64,
     pub tables: Tables,
@@ -84,6 +85,6 @@ impl MonitorParts {
         let _ = active;
         let _ = locks;
         let _ = jobs;
-        (generation, units)
+        (generation, units.into_units())
     }
 }
