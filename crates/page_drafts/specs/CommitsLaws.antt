@@ -123,9 +123,9 @@ module _ (i : Identity) (x : Content) (l : Layout) (used : List Bool) (stored : 
           );
     }
 
-    module _ (long : ℕ) (e : Drafting) (made : Prepared i.blksize long plan changes l e) where
+    module _ (at_least : ℕ) (e : Drafting) (made : Prepared i.blksize at_least plan changes l e) where
       now : IsDraft i.blksize i.pages (changed_all x.items changes) plan None e
-      now = made.draft i.pages x.items None can_prepare (begun_anywhere i.blksize i.pages x.items plan changes l can_prepare long)
+      now = made.draft i.pages x.items None can_prepare (begun_anywhere i.blksize i.pages x.items plan changes l can_prepare at_least)
 
       are : AreFreed l plan e.layout e.taken e.freed
       are = made.freed i.pages x.items can_prepare
@@ -139,7 +139,7 @@ module _ (i : Identity) (x : Content) (l : Layout) (used : List Bool) (stored : 
       count_pages = now.count
 
       pub bytes_most : total e.writes ≤ i.blksize * (put_charge i.blksize changes + length changes)
-      bytes_most = let le : e.taken ≤ put_charge i.blksize changes + length changes = made.most in omega (arith, now.count, ap (λ (n : ℕ). n * i.blksize) now.count, total_most i.blksize plan e.writes now.on_plan, mul-le-mul_left i.blksize le)
+      bytes_most = let le : e.taken ≤ put_charge i.blksize changes + length changes = made.most in omega (arith, ap (λ (n : ℕ). n * i.blksize) now.count, total_most i.blksize plan e.writes now.on_plan, mul-le-mul_left i.blksize le)
 
       pub pages_free : (second : Bool) → AllFree i.blksize second l e.writes
       pages_free second = plan_free i.blksize plan e.writes now.on_plan second l plan_unnamed
@@ -197,12 +197,12 @@ module _ (i : Identity) (x : Content) (l : Layout) (used : List Bool) (stored : 
 
       -- ---- the other image
 
-      module _ (second : Bool) (h : List ℕ) (le : long ≤ length h) (stands : Stands i second x l h) (y : Content) (content : IsContent y) (items : y.items ≡ changed_all x.items changes) (print : List ℕ) (identity : IsIdentity (record i { fingerprint = print })) where
+      module _ (second : Bool) (h : List ℕ) (le : at_least ≤ length h) (stands : Stands i second x l h) (y : Content) (content : IsContent y) (items : y.items ≡ changed_all x.items changes) (print : List ℕ) (identity : IsIdentity (record i { fingerprint = print })) where
         -- the file with the pages, and with the root of this fingerprint as the other one, has the new content's image
         pub would_be : IsImage (record i { fingerprint = print }) (not second) y e.layout (written (written_all h e.writes) (root_place (not second)) (root (record i { fingerprint = print }) y e.layout.directory))
         would_be =
             let image = stands.image in
-            let begun : IsDraft i.blksize i.pages x.items plan (Some h) (unprepared long l) = begun_in i second x l h plan long le image stored.charged plan_unnamed in
+            let begun : IsDraft i.blksize i.pages x.items plan (Some h) (unprepared at_least l) = begun_in i second x l h plan at_least le image stored.charged plan_unnamed in
             let draft = subst (λ (xs : List Record). IsDraft i.blksize i.pages xs plan (Some h) e) (sym items) (made.draft i.pages x.items (Some h) can_prepare begun) in
             let old = image_after i second x l h stands e.writes (pages_free second) in
             ended (record i { fingerprint = print }) identity second y e.layout e.stale plan e.taken (written_all h e.writes) draft.drafted made.clean old.headed (omega (arith, long i second x l h image, (all_keep e.writes h).no_shorter)) content

@@ -1,6 +1,6 @@
 -- A commit of a whole content: what it writes is, with the root, the other image, also one with other sizes and another
 -- fingerprint; and where just the pages of its plan are used, all is stored.
-use Rattle.std.proofs.Common.{◌≡◌, ℕ, ◌+◌, ◌*◌, ◌≤◌, Bool, true, not, List, length, Option, None, Some, sym, subst, arith}
+use Rattle.std.proofs.Common.{◌≡◌, ℕ, ◌+◌, ◌*◌, ◌≤◌, Bool, true, not, List, length, Option, None, Some, ap, sym, subst, arith}
 use Rattle.std.proofs.Math.Nat.{mul-le-mul_left}
 use Rattle.kd_device.specs.Device.{written}
 use Rattle.kd_records.specs.declared.content.Content.{Content}
