@@ -1,6 +1,7 @@
 -- What is made is written, and selected.
-use Rattle.std.proofs.Common.{◌≡◌, ℕ, ◌≤◌, Bool, not, List, length, ap, subst}
-use Rattle.kd_device.specs.Device.{State, LeavesOnly}
+use Rattle.std.proofs.Common.{◌≡◌, inl, ℕ, ◌≤◌, Bool, not, List, length, ap, sym, subst, ◌∙◌}
+use Rattle.kd_device.specs.Device.{State, LeavesOnly, Only, Quiet}
+use Rattle.kd_device.specs.TimeLaws.{leaves_weaker, leaves_then, quiet_leaves}
 use Rattle.kd_records.specs.declared.content.Content.{Content}
 use Rattle.kd_records.specs.declared.content.Patch.{Patch}
 use Rattle.kd_records.specs.Contents.{patched}
@@ -40,3 +41,11 @@ module _ {i : Opened} {x : Content} {l : Layout} {used : List Bool} {patch : Pat
       → ((y : Content) (m : Layout) → WouldBe i n.writes.items n.root y m h → Stands (renewed i n.root) (not i.second) y m g) → Stands (identity_of o) o.second n.filing.content.content (layout_in o.root n.filing.table.slots) g
   new_stands o h g is le stands after =
       rw is (after n.filing.content.content (layout_in n.root n.filing.table.slots) (would_be h le stands))
+
+-- a call before it that changes no byte
+pub after_quiet : (stands : Content → List ℕ → Type 0) (x y : Content) (a b d : State) (la lb ld : ℕ → List ℕ → List ℕ → Type 0) → stands x a.holds → Only a.holds a la → Quiet a b la lb → LeavesOnly b d lb ld (OldOrNew stands x y b.sent) → LeavesOnly a d la ld (OldOrNew stands x y a.sent)
+after_quiet stands x y a b d la lb ld is only quiet leaves =
+    leaves_then a b la lb d ld (OldOrNew stands x y a.sent)
+    (leaves_weaker a b la lb (λ c out. (out ≡ a.sent) × (c ≡ a.holds)) (OldOrNew stands x y a.sent) (quiet_leaves a b la lb (λ c. c ≡ a.holds) only quiet)
+    (λ c out h. (h.0, inl (subst (λ (l : List ℕ). stands x l) (sym h.1) is))))
+    (leaves_weaker b d lb ld (OldOrNew stands x y b.sent) (OldOrNew stands x y a.sent) leaves (λ c out h. (h.0 ∙ quiet.sent, h.1)))
