@@ -17,9 +17,9 @@ abbrev pub spelled_root : Root → List ℕ
 spelled_root r =
     r.fingerprint ++ to_be_bytes w64 r.clock ++ to_be_bytes w64 r.next_job ++ to_be_bytes w32 r.pgpool ++ to_be_bytes w32 (length r.directory) ++ to_be_bytes w32 r.records ++ codes "ROOT" ++ flat_map (λ p. to_be_bytes w32 p) r.directory
 
--- a write of a whole page that there is
+-- a write of a page that there is, or of its front
 abbrev pub IsPage : ℕ → ℕ → PageWrite → Type 0
-IsPage size pool w = (p : ℕ) × (p < page_count size pool) × (w.at ≡ page_place size p) × (length w.bytes ≡ size)
+IsPage size pool w = (p : ℕ) × (p < page_count size pool) × (w.at ≡ page_place size p) × (length w.bytes ≤ size)
 
 abbrev pub ArePages : ℕ → ℕ → List PageWrite → Type 0
 ArePages size pool pages = All (IsPage size pool) pages

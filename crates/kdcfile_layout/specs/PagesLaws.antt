@@ -1,21 +1,20 @@
--- Pages that are written whole, and what is in the others.
-use Rattle.std.proofs.Common.{length-take, [], ◌≡◌, ◌⊎◌, inl, inr, ⊎_elim, ℕ, zero, suc, ◌+◌, ◌-◌, ◌*◌, ◌≤◌, List, ◌∷◌, ◌++◌, length, take, drop, Some, refl, ap, sym, ◌∙◌, arith, length-append}
-use Rattle.std.specs.Prelude.{All}
+-- Pages that are written, and what is in the others.
+use Rattle.std.proofs.Common.{length-take, [], ◌≡◌, ◌⊎◌, inl, inr, ⊎_elim, ℕ, zero, suc, ◌+◌, ◌-◌, ◌*◌, ◌≤◌, Bool, true, false, List, ◌∷◌, ◌++◌, length, take, drop, Some, refl, ap, sym, ◌∙◌, arith, leb-true, length-append}
+use Rattle.std.specs.Prelude.{All, nat_le}
 use Rattle.std.proofs.Math.Nat.{mul-le-mul_left}
 use Rattle.std.proofs.lemmas.Bool.{cases_lt}
 use Rattle.std.proofs.lemmas.List.{length-replicate, take_at, take-take}
 use Rattle.std.proofs.lemmas.Grind.{common_steps}
-use Rattle.std.proofs.lemmas.List.Sums.{sum_by-cons}
 use Rattle.std.proofs.lemmas.List.Elements.{All-weaker, All-nil, All-cons, All-head, All-tail}
 use Rattle.kd_records.specs.declared.key.RecordKey.{RecordKey}
 use Rattle.kd_device.specs.Device.{written}
 use Rattle.kdcfile_layout.specs.Layout.{first_of_pages, chain_parts, chain_head, StandsAt, Part, PartStands, page_place, zeros}
 use Rattle.kdcfile_layout.specs.WrittenLaws.{written_stands, below_write, above_write}
 use Rattle.kdcfile_layout.specs.declared.page.PageWrite.{PageWrite}
-use Rattle.kdcfile_layout.specs.Writes.{written_all, total}
+use Rattle.kdcfile_layout.specs.Writes.{written_all}
 use Rattle.kdcfile_layout.specs.Places.{At, IsDistinct}
 use Rattle.kdcfile_layout.specs.PlacesLaws.{distinct_tail, distinct_head}
-use Rattle.kdcfile_layout.specs.Pages.{padded, page_write, page_writes, Fits, pages_of}
+use Rattle.kdcfile_layout.specs.Pages.{padded, write_where, part_write, part_writes, Fits, pages_of}
 use Rattle.kd_device.specs.TornLaws.{length_written}
 
 pub length_zeros : (n : ℕ) → length (zeros n) ≡ n
@@ -33,7 +32,7 @@ pages_apart b p q apart =
     (λ ge. let le : suc q ≤ p = omega (arith, ge, apart) in inr (omega (arith, mul-le-mul_left b le)))
     (cases_lt p q)
 
-module _ (size : ℕ) (h : List ℕ) (p : ℕ) (bytes : List ℕ) (whole : length bytes ≡ size) where
+module _ (size : ℕ) (h : List ℕ) (p : ℕ) (bytes : List ℕ) (whole : length bytes ≤ size) where
   -- a page that is written leaves the others
   pub other_page : (part : Part) → (p ≡ part.0 → ⊥) → PartStands size h part → PartStands size (written h (page_place size p) bytes) part
   other_page part apart stands = record {
@@ -61,27 +60,44 @@ this_page size h part fits = record {
   inside = omega (arith, length_written h (page_place size part.0) (padded size part.1), length_padded size part.1 fits);
 }
 
-pub other_pages : (size : ℕ) (parts : List Part) (h : List ℕ) (part : Part) → All (Fits size) parts → ((a : ℕ) → At (pages_of parts) a part.0 → ⊥) → PartStands size h part → PartStands size (written_all h (page_writes size parts)) part
-other_pages size [] h part fit apart stands = stands
-other_pages size (p ∷ parts) h part fit apart stands =
-    other_pages size parts (written h (page_place size p.0) (padded size p.1)) part (All-tail (Fits size) p parts fit) (λ a at. apart (suc a) at)
-    (other_page size h p.0 (padded size p.1) (length_padded size p.1 (All-head (Fits size) p parts fit)) part (λ e. apart zero (ap (λ (m : ℕ). Some m) e)) stands)
+-- the same of a page of which its front alone is written, where the file has it
+module _ (size : ℕ) (part : Part) (fits : Fits size part) where
+  length_of : (there : Bool) → length (write_where size part there).bytes ≤ size
+  length_of true = fits
+  length_of false = omega (arith, length_padded size part.1 fits)
 
--- pages that are written, all of them apart, stand
-pub these_pages : (size : ℕ) (parts : List Part) (h : List ℕ) → All (Fits size) parts → IsDistinct (pages_of parts) → All (PartStands size (written_all h (page_writes size parts))) parts
-these_pages size [] h fit distinct = All-nil (PartStands size h)
-these_pages size (p ∷ parts) h fit distinct =
-    let h1 = written h (page_place size p.0) (padded size p.1) in
+  pub length_part : (long : ℕ) → length (part_write size long part).bytes ≤ size
+  length_part long = length_of (nat_le (page_place size part.0 + size) long)
+
+  pub this_part : (long : ℕ) (h : List ℕ) → long ≤ length h → PartStands size (written h (page_place size part.0) (part_write size long part).bytes) part
+  this_part long h le = by (nat_le (page_place size part.0 + size) long) (λ is. omega (arith, leb-true (page_place size part.0 + size) long is, le))
+    where
+      by : (there : Bool) → (there ≡ true → page_place size part.0 + size ≤ length h) → PartStands size (written h (page_place size part.0) (write_where size part there).bytes) part
+      by true inside = record {
+        stands = written_stands h (page_place size part.0) part.1;
+        fits = fits;
+        inside = omega (arith, inside refl, length_written h (page_place size part.0) part.1);
+      }
+      by false inside = this_page size h part fits
+
+pub other_parts : (size long : ℕ) (parts : List Part) (h : List ℕ) (part : Part) → All (Fits size) parts → ((a : ℕ) → At (pages_of parts) a part.0 → ⊥) → PartStands size h part → PartStands size (written_all h (part_writes size long parts)) part
+other_parts size long [] h part fit apart stands = stands
+other_parts size long (p ∷ parts) h part fit apart stands =
+    let fits = All-head (Fits size) p parts fit in
+    other_parts size long parts (written h (page_place size p.0) (part_write size long p).bytes) part (All-tail (Fits size) p parts fit) (λ a at. apart (suc a) at)
+    (other_page size h p.0 (part_write size long p).bytes (length_part size p fits long) part (λ e. apart zero (ap (λ (m : ℕ). Some m) e)) stands)
+
+-- parts that are written on pages, all of them apart, stand
+pub these_parts : (size long : ℕ) (parts : List Part) (h : List ℕ) → long ≤ length h → All (Fits size) parts → IsDistinct (pages_of parts) → All (PartStands size (written_all h (part_writes size long parts))) parts
+these_parts size long [] h le fit distinct = All-nil (PartStands size h)
+these_parts size long (p ∷ parts) h le fit distinct =
+    let bytes = (part_write size long p).bytes in
+    let h1 = written h (page_place size p.0) bytes in
     let fits = All-head (Fits size) p parts fit in
     let rest = All-tail (Fits size) p parts fit in
-    All-cons (PartStands size (written_all h (page_writes size (p ∷ parts)))) p parts
-    (other_pages size parts h1 p rest (distinct_head p.0 (pages_of parts) distinct) (this_page size h p fits))
-    (these_pages size parts h1 rest (distinct_tail p.0 (pages_of parts) distinct))
-
-pub total_pages : (size : ℕ) (parts : List Part) → All (Fits size) parts → total (page_writes size parts) ≡ length parts * size
-total_pages size [] fit = omega arith
-total_pages size (p ∷ parts) fit =
-    omega (arith, sum_by-cons (λ (w : PageWrite). length w.bytes) (page_write size p) (page_writes size parts), total_pages size parts (All-tail (Fits size) p parts fit), length_padded size p.1 (All-head (Fits size) p parts fit))
+    All-cons (PartStands size (written_all h (part_writes size long (p ∷ parts)))) p parts
+    (other_parts size long parts h1 p rest (distinct_head p.0 (pages_of parts) distinct) (this_part size p fits long h le))
+    (these_parts size long parts h1 (omega (arith, le, length_written h (page_place size p.0) bytes)) rest (distinct_tail p.0 (pages_of parts) distinct))
 
 -- ---- the texts of a record's pages
 

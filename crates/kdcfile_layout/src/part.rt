@@ -13,7 +13,7 @@ fn zero_bytes(alloc: Global, len: usize) -> Result<Vec<u8>, OutOfMemory>
     Ok(vec![in alloc; 0; len]?)
 }
 
-/// At most `len` bytes from the place `at`, as far as the file goes.
+/// At most `len` bytes from the place `at`, as far as the file goes. It takes memory for all of them.
 pub fn read_part<D: Device>(
     alloc: Global,
     device: &mut D,
@@ -27,8 +27,7 @@ pub fn read_part<D: Device>(
     ensures frame { Frame (D.state device.old) (D.state device.new) }
     ensures names { SameNames (D.state device.old) (D.state device.new) }
 {
-    let rest = device.size()?.saturating_sub(at);
-    let mut part = zero_bytes(alloc, rest.min(len as u64) as usize)?;
+    let mut part = zero_bytes(alloc, len)?;
     let read = device.read_at(at, part.as_mut_slice())?;
     part.truncate(read);
     Ok(part)

@@ -1,10 +1,10 @@
 //! Pages as bytes.
-ghost use Rattle.std.specs.Prelude.{◌≡◌, ◌≤◌, ◌<◌, ◌+◌, ◌-◌, ◌*◌, ◌/◌, ◌^◌, ◌++◌, ◌∷◌, [], List, Some, length, take, drop, IfOk, OnOk};
+ghost use Rattle.std.specs.Prelude.{◌≡◌, ◌≤◌, ◌<◌, ◌+◌, ◌-◌, ◌*◌, ◌/◌, ◌^◌, ◌++◌, ◌∷◌, [], List, Some, length, take, drop, nat_le, IfOk, OnOk};
 ghost use Rattle.std.specs.List.{flat_map};
 ghost use Rattle.std.specs.Int.{w32, to_be_bytes};
 ghost use Rattle.kd_records.specs.Charge.{IsBlockSize};
 ghost use Rattle.kdcfile_layout.specs.Layout.{zeros, free_slot, spelled_slot, directory_text, chain_head, first_of_pages, record_parts, page_place};
-ghost use Rattle.kdcfile_layout.specs.Pages.{padded, page_writes};
+ghost use Rattle.kdcfile_layout.specs.Pages.{padded, front_or_whole, part_writes};
 ghost use Rattle.kdcfile_layout.specs.declared.chain.Chain.{Chain as ChainIs};
 
 use crate::chain::Chain;
@@ -39,12 +39,15 @@ fn add_zeros(to: &mut Vec<u8>, count: usize) -> Result<(), OutOfMemory>
     Ok(())
 }
 
-// Fills a page with zero bytes.
-fn pad(page: &mut Vec<u8>, size: u32) -> Result<(), OutOfMemory>
+// Fills a page with zero bytes, unless the file has the page already.
+fn pad(page: &mut Vec<u8>, size: u32, there: bool) -> Result<(), OutOfMemory>
     requires size { size ≤ 8192 }
     requires fits { length page.old.items ≤ size }
-    ensures { OnOk result (page.new.items ≡ padded size page.old.items) }
+    ensures { OnOk result (page.new.items ≡ front_or_whole size page.old.items there) }
 {
+    if there {
+        return Ok(());
+    }
     let count = size as usize - page.len();
     add_zeros(page, count)
 }
@@ -87,10 +90,11 @@ pub fn head_bytes(
     Ok(out)
 }
 
-// A page of a record, with this part of its value.
+// A page of a record, with this part of its value: as far as that goes, where the file has the page already.
 fn chain_page(
     alloc: Global,
     size: u32,
+    there: bool,
     key: &RecordKey,
     whole: u32,
     part: u32,
@@ -99,12 +103,12 @@ fn chain_page(
 ) -> Result<Bytes, OutOfMemory>
     requires size { size ≤ 8192 }
     requires fits { 48 + length front.now ≤ size }
-    ensures { IfOk result (λ b. b ≡ padded size (chain_head key.now whole part next ++ front.now)) }
+    ensures { IfOk result (λ b. b ≡ front_or_whole size (chain_head key.now whole part next ++ front.now) there) }
 {
-    let mut out = Vec::with_capacity(alloc, size as usize)?;
+    let mut out = Vec::with_capacity(alloc, HEAD_LEN + front.len())?;
     put_head(&mut out, key, whole, part, next)?;
     out.extend_from_slice(front)?;
-    pad(&mut out, size)?;
+    pad(&mut out, size, there)?;
     Ok(Bytes::from_vec(out))
 }
 
@@ -118,10 +122,20 @@ fn first_page(pages: &[u32]) -> u32
     }
 }
 
-/// Adds the writes of a record's pages: each has as much of the value as it holds.
+// Whether a file of so many bytes has this page.
+fn is_there(size: u32, page: u32, long: u64) -> bool
+    requires { size ≤ 8192 }
+    ensures { result ≡ nat_le (page_place size page + size) long }
+{
+    page_place(size, page) + u64::from(size) <= long
+}
+
+/// Adds the writes of a record's pages, in a file that has `long` bytes: each has as much of the value as it holds. Of a
+/// page that lies within these bytes nothing is written after that; another one is filled with zero bytes.
 pub fn put_chain(
     alloc: Global,
     size: u32,
+    long: u64,
     chain: &Chain,
     value: &[u8],
     writes: &mut Vec<PageWrite>,
@@ -129,7 +143,7 @@ pub fn put_chain(
     requires size { IsBlockSize size }
     requires value { length value.now < 2 ^ 32 }
     requires pages { length chain.now.pages < 2 ^ 32 }
-    ensures { OnOk result (writes.new.items ≡ writes.old.items ++ page_writes size (record_parts size value.now chain.now)) }
+    ensures { OnOk result (writes.new.items ≡ writes.old.items ++ part_writes size long (record_parts size value.now chain.now)) }
 {
     let payload = size as usize - HEAD_LEN;
     let pages = chain.pages.as_slice();
@@ -141,6 +155,7 @@ pub fn put_chain(
         let bytes = chain_page(
             alloc,
             size,
+            is_there(size, pages[part], long),
             &chain.key,
             value.len() as u32,
             part as u32,

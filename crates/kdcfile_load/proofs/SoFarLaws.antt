@@ -1,14 +1,19 @@
 -- A chain that is read so far.
-use Rattle.std.proofs.Common.{◌≡◌, ℕ, zero, suc, ◌+◌, ◌-◌, ◌*◌, ◌<◌, ◌≤◌, ◌^◌, List, [], ◌∷◌, ◌++◌, length, take, Option, Some, None, refl, ap, sym, subst, ◌∙◌, arith, append_assoc, eqb}
+use Rattle.std.proofs.Common.{◌≡◌, ℕ, zero, suc, ◌+◌, ◌-◌, ◌*◌, ◌<◌, ◌≤◌, ◌^◌, Bool, true, false, cond, ltb, ◌&&◌, List, [], ◌∷◌, ◌++◌, length, take, drop, Option, Some, None, refl, ap, sym, subst, ◌∙◌, arith, append_assoc, eqb}
 use Rattle.std.proofs.Common.{length-append}
 use Rattle.std.specs.Option.{option_map, option_and_then}
 use Rattle.kd_device.specs.Device.{State, Frame, SameFaults, SameNames}
 use Rattle.std.specs.Prelude.{IsTrue}
 use Rattle.kd_device.specs.Rest.{Rests}
 use Rattle.kd_records.specs.declared.key.RecordKey.{RecordKey}
-use Rattle.kdcfile_layout.specs.Chains.{Held, part_at, Chained, last_with, chain_of}
+use Rattle.std.specs.Int.{w32}
+use Rattle.std.specs.Str.{bytes_eq}
+use Rattle.kdcfile_layout.specs.Fields.{number}
+use Rattle.kdcfile_layout.specs.Layout.{chain_head}
+use Rattle.kdcfile_layout.specs.Chains.{Held, page_at, part_of, part_at, Chained, last_with, chain_of}
+use Rattle.kdcfile_load.specs.Reads.{page_in}
 use Rattle.std.proofs.lemmas.List.{length-take-le}
-use Rattle.std.proofs.lemmas.Bool.{cond-true, cond-false, eq-eqb, ne_eqb}
+use Rattle.std.proofs.lemmas.Bool.{cond-true, cond-false, eq-eqb, ne_eqb, lt-leb}
 use Rattle.kdcfile_layout.specs.ReadChains.{Holds}
 use Rattle.kdcfile_layout.specs.ReadChainsLaws.{holds_rest}
 use Rattle.kdcfile_load.proofs.RestedLaws.{rested_then}
@@ -25,6 +30,17 @@ one_fits m left room h =
 onto_more : (pages value : List ℕ) (p : ℕ) (piece : List ℕ) (o : Option Chained) → onto pages value (option_map (λ (r : Chained). (p ∷ r.0, piece ++ r.1)) o) ≡ onto (pages ++ p ∷ []) (value ++ piece) o
 onto_more pages value p piece None = refl
 onto_more pages value p piece (Some r) = λ z. Some (sym (append_assoc pages (p ∷ []) r.0) z, sym (append_assoc value piece r.1) z)
+
+-- a page that there is not is no part
+pub part_there : (size count : ℕ) (h : List ℕ) (k : RecordKey) (n part p : ℕ) → 48 ≤ size → part_of size k n part (page_in size count h p) ≡ part_at size count h k n part p
+part_there size count h k n part p le = by (ltb p count)
+  where
+    none : part_of size k n part [] ≡ None
+    none = ap (λ (b : Bool). cond (b && bytes_eq (take 48 []) (chain_head k n part (number w32 33 []))) (Some (number w32 33 [], drop 48 [])) None) (lt-leb size 0 (omega (arith, le)))
+
+    by : (b : Bool) → part_of size k n part (cond b (page_at size h p) []) ≡ cond b (part_of size k n part (page_at size h p)) None
+    by true = refl
+    by false = none
 
 module _ (size count : ℕ) (h : List ℕ) (k : RecordKey) (n part room p : ℕ) (pages value : List ℕ) where
   pub none_here : (left : ℕ) → part_at size count h k n part p ≡ None → onto pages value (chain_of size count h k n part (suc left) room p) ≡ None
@@ -45,18 +61,14 @@ module _ (size count : ℕ) (h : List ℕ) (k : RecordKey) (n part room p : ℕ)
   last_here q e = ap (λ (o : Option Held). onto pages value (option_and_then (λ (x : Held). last_with room p x) o)) e
 
 module _ (size count : ℕ) (k : RecordKey) (n left first part room p : ℕ) (pages value : List ℕ) (a b : State) (la lb : ℕ → List ℕ → List ℕ → Type 0) (so_far : Reading size count k n left first part room p pages value a b la lb) where
-  -- a page of the file as it is now is one of the file as it was
-  there : IsTrue a.told → (o : Option Held) → part_at size count b.holds k n part p ≡ o → part_at size count a.holds k n part p ≡ o
-  there told o e = ap (λ (h : List ℕ). part_at size count h k n part p) (sym (so_far.rested.rests told).holds) ∙ e
-
   at_left : IsTrue a.told → (m : ℕ) → left - part ≡ m → onto pages value (chain_of size count a.holds k n part m room p) ≡ chain_of size count a.holds k n 0 left n first
   at_left told m e = subst (λ (x : ℕ). onto pages value (chain_of size count a.holds k n part x room p) ≡ chain_of size count a.holds k n 0 left n first) e (so_far.so_far told)
 
-  pub none_now : part < left → IsTrue a.told → part_at size count b.holds k n part p ≡ None → None ≡ chain_of size count a.holds k n 0 left n first
-  none_now lt told e = sym (none_here size count a.holds k n part room p pages value (left - part - 1) (there told None e)) ∙ at_left told (suc (left - part - 1)) (omega (arith, lt))
+  pub none_now : part < left → IsTrue a.told → part_at size count a.holds k n part p ≡ None → None ≡ chain_of size count a.holds k n 0 left n first
+  none_now lt told e = sym (none_here size count a.holds k n part room p pages value (left - part - 1) e) ∙ at_left told (suc (left - part - 1)) (omega (arith, lt))
 
   module _ (q : Held) where
-    pub more_now : part < left - 1 → size ≤ length q.1 + 48 → (IsTrue a.told → part_at size count b.holds k n part p ≡ Some q) → (d : State) (ld : ℕ → List ℕ → List ℕ → Type 0) → Frame b d → SameNames b d → SameFaults b d → (IsTrue b.told → Rests b d lb ld)
+    pub more_now : part < left - 1 → size ≤ length q.1 + 48 → (IsTrue a.told → part_at size count a.holds k n part p ≡ Some q) → (d : State) (ld : ℕ → List ℕ → List ℕ → Type 0) → Frame b d → SameNames b d → SameFaults b d → (IsTrue b.told → Rests b d lb ld)
         → (pages' value' : List ℕ) (room' : ℕ) → pages' ≡ pages ++ p ∷ [] → value' ≡ value ++ take (size - 48) q.1 → room' ≡ room - (size - 48) → Reading size count k n left first (part + 1) room' q.0 pages' value' a d la ld
     more_now lt wide here d ld frame names fine rests pages' value' room' pages_are value_is room_is =
         let now : left - part ≡ suc (suc (left - part - 2)) = omega (arith, lt) in
@@ -76,7 +88,7 @@ module _ (size count : ℕ) (k : RecordKey) (n left first part room p : ℕ) (pa
               ∙ ap (λ (x : List ℕ). onto (pages ++ p ∷ []) x (chain_of size count a.holds k n (part + 1) (left - (part + 1)) room' q.0)) value_is
               ∙ ap (λ (x : ℕ). onto (pages ++ p ∷ []) (value ++ take (size - 48) q.1) (chain_of size count a.holds k n (part + 1) x room' q.0)) next
               ∙ ap (λ (x : ℕ). onto (pages ++ p ∷ []) (value ++ take (size - 48) q.1) (chain_of size count a.holds k n (part + 1) (suc (left - part - 2)) x q.0)) room_is
-              ∙ sym (more_here size count a.holds k n part room p pages value (left - part - 2) q (there told (Some q) (here told)))
+              ∙ sym (more_here size count a.holds k n part room p pages value (left - part - 2) q (here told))
               ∙ at_left told (suc (suc (left - part - 2))) now;
         }
 
@@ -90,13 +102,13 @@ module _ (size count : ℕ) (k : RecordKey) (n left first part room p : ℕ) (pa
     pub last_pages : part ≡ left - 1 → (pages' : List ℕ) → pages' ≡ pages ++ p ∷ [] → length pages' ≡ left
     last_pages last pages' pages_are = ap (λ (l : List ℕ). length l) pages_are ∙ omega (arith, length-append pages (p ∷ []), so_far.parts, last, so_far.holds.some)
 
-    pub last_now : (last : ℕ) → part ≡ last → last ≡ left - 1 → IsTrue a.told → part_at size count b.holds k n last p ≡ Some q → onto pages value (last_with room p q) ≡ chain_of size count a.holds k n 0 left n first
+    pub last_now : (last : ℕ) → part ≡ last → last ≡ left - 1 → IsTrue a.told → part_at size count a.holds k n last p ≡ Some q → onto pages value (last_with room p q) ≡ chain_of size count a.holds k n 0 left n first
     last_now last part_is last_is told e =
-        let here : part_at size count b.holds k n part p ≡ Some q = ap (λ (x : ℕ). part_at size count b.holds k n x p) part_is ∙ e in
-        sym (last_here size count a.holds k n part room p pages value q (there told (Some q) here)) ∙ at_left told (suc zero) (omega (arith, so_far.holds.some, part_is, last_is))
+        let here : part_at size count a.holds k n part p ≡ Some q = ap (λ (x : ℕ). part_at size count a.holds k n x p) part_is ∙ e in
+        sym (last_here size count a.holds k n part room p pages value q here) ∙ at_left told (suc zero) (omega (arith, so_far.holds.some, part_is, last_is))
 
-  pub none_last : (last : ℕ) → part ≡ last → last ≡ left - 1 → IsTrue a.told → part_at size count b.holds k n last p ≡ None → None ≡ chain_of size count a.holds k n 0 left n first
-  none_last last part_is last_is told e = none_now (omega (arith, so_far.holds.some)) told (ap (λ (x : ℕ). part_at size count b.holds k n x p) part_is ∙ e)
+  pub none_last : (last : ℕ) → part ≡ last → last ≡ left - 1 → IsTrue a.told → part_at size count a.holds k n last p ≡ None → None ≡ chain_of size count a.holds k n 0 left n first
+  none_last last part_is last_is told e = none_now (omega (arith, so_far.holds.some)) told (ap (λ (x : ℕ). part_at size count a.holds k n x p) part_is ∙ e)
 
 -- the last page names another
 pub not_last : (pages value : List ℕ) (room p : ℕ) (q : Held) → (q.0 ≡ 2 ^ 32 - 1 → ⊥) → onto pages value (last_with room p q) ≡ None

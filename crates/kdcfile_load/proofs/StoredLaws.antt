@@ -32,23 +32,6 @@ use Rattle.kdcfile_load.proofs.StepsLaws.{steps_none, steps_more}
 
 -- ---- the length of a value
 
--- the first bytes say it
-whole_in_front : (xs : List ℕ) → whole_of (take 29 xs) ≡ whole_of xs
-unfolding number
-whole_in_front xs =
-    ap (λ (b : Bool). cond b None (Some (number w32 25 (take 29 xs)))) (tests (length (take 29 xs)) (length xs) (length-take 29 xs))
-    ∙ ap (λ (l : List ℕ). cond (ltb (length xs) 29) None (Some (from_be_bytes w32 l))) (ap (λ (l : List ℕ). take 4 l) (drop-take 25 4 xs) ∙ take-take 4 4 (drop 25 xs) (omega arith))
-  where
-    tests : (b a : ℕ) → b ≡ min 29 a → ltb b 29 ≡ ltb a 29
-    tests b a e =
-        ⊎_elim
-        (λ lt. lt-ltb b 29 (omega (arith, e, lt)) ∙ sym (lt-ltb a 29 lt))
-        (λ ge. le-ltb b 29 (omega (arith, e, ge)) ∙ sym (le-ltb a 29 ge))
-        (cases_lt a 29)
-
-pub whole_front : (size : ℕ) (h : List ℕ) (p : ℕ) → 29 ≤ size → whole_of (take 29 (drop (page_place size p) h)) ≡ whole_of (page_at size h p)
-whole_front size h p le = ap whole_of (sym (take-take 29 size (drop (page_place size p) h) le)) ∙ whole_in_front (take size (drop (page_place size p) h))
-
 -- ---- chains that stand
 
 -- each used slot has a record, whose chain is read
@@ -79,16 +62,13 @@ pub record IsRead (size count : ℕ) (h : List ℕ) (c : Chain) : Type 0 where
   pub reads : ReadsChain size count h c value
 
 module _ (size count : ℕ) (h : List ℕ) (block : IsBlockSize size) where
-  wide : 29 ≤ size
-  wide = omega (arith, block_from size block)
-
   -- the record of such a slot is read
   record_read : (c : Chain) (left : ℕ) (is : IsRead size count h c) → length c.pages ≤ left → record_at size count left h c.key (first_of_pages c.pages) ≡ Some (c.pages, is.value)
   record_read c left is few =
       let p = first_of_pages c.pages in
       let n = length is.value in
-      cond-true (ltb p count) (option_and_then (λ (m : ℕ). chain_within size count left h c.key p m) (whole_of (take 29 (drop (page_place size p) h)))) None (lt-ltb p count is.below)
-      ∙ ap (λ (o : Option ℕ). option_and_then (λ (m : ℕ). chain_within size count left h c.key p m) o) (whole_front size h p wide ∙ is.reads.whole)
+      cond-true (ltb p count) (option_and_then (λ (m : ℕ). chain_within size count left h c.key p m) (whole_of (page_at size h p))) None (lt-ltb p count is.below)
+      ∙ ap (λ (o : Option ℕ). option_and_then (λ (m : ℕ). chain_within size count left h c.key p m) o) is.reads.whole
       ∙ cond-true (leb (charge_of size n) left) (chain_of size count h c.key n 0 (charge_of size n) n p) None (le-leb (charge_of size n) left (omega (arith, is.charged, few)))
       ∙ is.reads.chain
 
@@ -116,11 +96,11 @@ module _ (size count : ℕ) (h : List ℕ) (block : IsBlockSize size) where
   -- a record that was read
   record_stands : (f : First) (left : ℕ) (r : Chained) → length f.key.bytes ≡ 24 → record_at size count left h f.key f.page ≡ Some r → (first_of_pages r.0 ≡ f.page) × ReadsChain size count h (record { key = f.key; pages = r.0 }) r.1
   record_stands f left r wide_key e =
-      let there = when (ltb f.page count) (option_and_then (λ (m : ℕ). chain_within size count left h f.key f.page m) (whole_of (take 29 (drop (page_place size f.page) h)))) r e in
-      let n = and_some (λ (m : ℕ). chain_within size count left h f.key f.page m) (whole_of (take 29 (drop (page_place size f.page) h))) r there.1 in
+      let there = when (ltb f.page count) (option_and_then (λ (m : ℕ). chain_within size count left h f.key f.page m) (whole_of (page_at size h f.page))) r e in
+      let n = and_some (λ (m : ℕ). chain_within size count left h f.key f.page m) (whole_of (page_at size h f.page)) r there.1 in
       let chain = (when (leb (charge_of size n.0) left) (chain_of size count h f.key n.0 0 (charge_of size n.0) n.0 f.page) r n.2).1 in
       let stands = read_chains_stand size count h f.key n.0 0 (charge_of size n.0) n.0 f.page r.1 r.0 wide_key (charge_holds size n.0 block) chain in
-      let whole : whole_of (page_at size h f.page) ≡ Some n.0 = sym (whole_front size h f.page wide) ∙ n.1 in
+      let whole : whole_of (page_at size h f.page) ≡ Some n.0 = n.1 in
       let long : n.0 ≡ length r.1 = sym stands.2 in (
         stands.0,
         record {

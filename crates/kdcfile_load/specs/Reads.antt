@@ -1,10 +1,10 @@
 -- What is read of a file: the slots of its directory, and the chains that they begin.
-use Rattle.std.specs.Prelude.{◌≡◌, ℕ, ◌-◌, ◌<◌, ◌^◌, nat_lt, nat_le, if◌then◌else◌, List, [], ◌∷◌, ◌++◌, length, take, drop, Option, Some, None, All}
+use Rattle.std.specs.Prelude.{◌≡◌, ℕ, ◌-◌, ◌<◌, ◌^◌, nat_lt, nat_le, if◌then◌else◌, List, [], ◌∷◌, ◌++◌, length, Option, Some, None, All}
 use Rattle.std.specs.Option.{option_map, option_and_then}
 use Rattle.kd_records.specs.declared.key.RecordKey.{RecordKey}
 use Rattle.kd_records.specs.Contents.{IsKey, IsRecord}
 use Rattle.kd_records.specs.Charge.{charge_of}
-use Rattle.kdcfile_layout.specs.Layout.{page_place, slots_in_page}
+use Rattle.kdcfile_layout.specs.Layout.{slots_in_page}
 use Rattle.kdcfile_layout.specs.declared.kdcfile_read.slot.First.{First}
 use Rattle.kdcfile_layout.specs.Slots.{slots_of}
 use Rattle.kdcfile_layout.specs.Reading.{whole_of}
@@ -43,6 +43,10 @@ pub record AreFirsts (n : ℕ) (slots : List (Option First)) : Type 0 where
 
 -- ---- records
 
+-- the bytes of a page that there is, and else none
+abbrev pub page_in : ℕ → ℕ → List ℕ → ℕ → List ℕ
+page_in size count h p = if nat_lt p count then page_at size h p else []
+
 -- the chain of a value of n bytes, where no more than so many pages are left for it
 abbrev pub chain_within : ℕ → ℕ → ℕ → List ℕ → RecordKey → ℕ → ℕ → Option Chained
 chain_within size count left h k p n = if nat_le (charge_of size n) left then chain_of size count h k n 0 (charge_of size n) n p else None
@@ -50,7 +54,7 @@ chain_within size count left h k p n = if nat_le (charge_of size n) left then ch
 -- the pages and the value of the record whose chain begins at this page
 abbrev pub record_at : ℕ → ℕ → ℕ → List ℕ → RecordKey → ℕ → Option Chained
 record_at size count left h k p =
-    if nat_lt p count then option_and_then (λ n. chain_within size count left h k p n) (whole_of (take 29 (drop (page_place size p) h))) else None
+    if nat_lt p count then option_and_then (λ n. chain_within size count left h k p n) (whole_of (page_at size h p)) else None
 
 -- with a slot that is free
 abbrev pub with_free : Gathering → Gathering

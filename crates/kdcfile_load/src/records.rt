@@ -5,10 +5,11 @@ ghost use Rattle.kd_records.specs.Charge.{IsBlockSize};
 ghost use Rattle.kdcfile_load.specs.Reads.{record_at, after_slot, records_from, none_yet, IsCharged, IsFirst, Follows, IsGathering};
 
 use crate::chain::{Found, read_chain};
+use crate::part::page_in;
 use kd_device::{Device, DeviceError};
 use kd_records::{RecordKey, Records, charge};
 use kdcfile_layout::kdcfile_read::{First, whole_of};
-use kdcfile_layout::{Chain, Slots, page_place, read_part};
+use kdcfile_layout::{Chain, Slots};
 use std::alloc::Global;
 
 /// What was read so far: how many pages are left for chains, the slots, and the records of the used ones in their order.
@@ -41,8 +42,8 @@ fn record_at<D: Device>(
     if first.page >= count {
         return Ok(None);
     }
-    let head = read_part(alloc, device, page_place(size, first.page), 29)?;
-    let Some(whole) = whole_of(head.as_slice()) else {
+    let page = page_in(alloc, device, size, count, first.page)?;
+    let Some(whole) = whole_of(page.as_slice()) else {
         return Ok(None);
     };
     let pages = charge(u64::from(whole), size);
@@ -58,6 +59,7 @@ fn record_at<D: Device>(
         whole,
         pages as u32,
         first.page,
+        page,
     )
 }
 

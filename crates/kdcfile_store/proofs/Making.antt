@@ -11,7 +11,7 @@ use Rattle.kdcfile_layout.specs.Pools.{ArePlanned}
 use Rattle.kdcfile_layout.specs.declared.chain.Chain.{Chain}
 use Rattle.kdcfile_layout.specs.Stored.{IsStored}
 use Rattle.kdcfile_layout.specs.Opened.{Opened, identity_of, layout_in}
-use Rattle.page_drafts.specs.CommitsLaws.{whole_pages, count_pages, bytes_most, pages_free, taken_planned, freed_once, freed_used, stored_after, would_be}
+use Rattle.page_drafts.specs.CommitsLaws.{are_pages, count_pages, bytes_most, pages_free, taken_planned, freed_once, freed_used, stored_after, would_be}
 use Rattle.page_drafts.specs.Drafting.{Drafting}
 use Rattle.page_drafts.specs.Prepared.{Prepared}
 use Rattle.kdcfile_store.specs.declared.next.Next.{Next}
@@ -22,7 +22,7 @@ module _ (i : Opened) (slots : List (Option Chain)) (x : Content) (used : List B
   pub few_records : length p.content.items < 2 ^ 32
   few_records = omega (arith, ap (λ (z : Content). length z.items) made, length_within i.blksize (patched x patch).items, after, stored.identity.most)
 
-  module _ (needed : ℕ) (plan : List ℕ) (planned : ArePlanned used needed plan) (few : length plan < 2 ^ 32) (e : Drafting) (prepared : Prepared i.blksize plan patch.items (layout_in i.root slots) e) (n : Next) (drafted : IsDrafted i p plan e n) where
+  module _ (needed : ℕ) (plan : List ℕ) (planned : ArePlanned used needed plan) (few : length plan < 2 ^ 32) (long : ℕ) (e : Drafting) (prepared : Prepared i.blksize long plan patch.items (layout_in i.root slots) e) (n : Next) (drafted : IsDrafted i p plan e n) where
     content : IsContent p.content
     content =
         rw made
@@ -34,19 +34,19 @@ module _ (i : Opened) (slots : List (Option Chain)) (x : Content) (used : List B
     items : p.content.items ≡ (patched x patch).items
     items = ap (λ (z : Content). z.items) made
 
-    pub is_next : IsNext i x (layout_in i.root slots) used patch n
+    pub is_next : IsNext i x (layout_in i.root slots) used patch long n
     is_next = record {
       content = rw drafted.content made;
       root = rw (drafted.root, drafted.content) refl;
-      pages = rw drafted.writes (whole_pages _ _ _ _ stored _ is.ascending before after _ _ planned _ prepared);
-      few = rw drafted.writes (omega (arith, few, prepared.enough, count_pages _ _ _ _ stored _ is.ascending before after _ _ planned _ prepared));
-      most = rw drafted.writes (bytes_most _ _ _ _ stored _ is.ascending before after _ _ planned _ prepared);
-      planned = rw drafted.pages (taken_planned _ _ _ _ stored _ is.ascending before after _ _ planned _ prepared);
-      distinct = rw drafted.freed (freed_once _ _ _ _ stored _ is.ascending before after _ _ planned _ prepared);
-      freed = rw drafted.freed (freed_used _ _ _ _ stored _ is.ascending before after _ _ planned _ prepared);
-      stored = rw (drafted.content, drafted.root, drafted.table, drafted.pages, drafted.freed) (stored_after _ _ _ _ stored _ is.ascending before after _ _ planned _ prepared p.content content items);
-      apart = rw drafted.writes (pages_free _ _ _ _ stored _ is.ascending before after _ _ planned _ prepared i.second);
-      would_be = λ h stands.
+      pages = rw drafted.writes (are_pages _ _ _ _ stored _ is.ascending before after _ _ planned long _ prepared);
+      few = rw drafted.writes (omega (arith, few, prepared.enough, count_pages _ _ _ _ stored _ is.ascending before after _ _ planned long _ prepared));
+      most = rw drafted.writes (bytes_most _ _ _ _ stored _ is.ascending before after _ _ planned long _ prepared);
+      planned = rw drafted.pages (taken_planned _ _ _ _ stored _ is.ascending before after _ _ planned long _ prepared);
+      distinct = rw drafted.freed (freed_once _ _ _ _ stored _ is.ascending before after _ _ planned long _ prepared);
+      freed = rw drafted.freed (freed_used _ _ _ _ stored _ is.ascending before after _ _ planned long _ prepared);
+      stored = rw (drafted.content, drafted.root, drafted.table, drafted.pages, drafted.freed) (stored_after _ _ _ _ stored _ is.ascending before after _ _ planned long _ prepared p.content content items);
+      apart = rw drafted.writes (pages_free _ _ _ _ stored _ is.ascending before after _ _ planned long _ prepared i.second);
+      would_be = λ h le stands.
           rw (drafted.content, drafted.root, drafted.table, drafted.writes)
-          (would_be _ _ _ _ stored _ is.ascending before after _ _ planned _ prepared i.second h stands p.content content items i.root.fingerprint stored.identity);
+          (would_be _ _ _ _ stored _ is.ascending before after _ _ planned long _ prepared i.second h le stands p.content content items i.root.fingerprint stored.identity);
     }

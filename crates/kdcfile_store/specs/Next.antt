@@ -42,9 +42,10 @@ pub record IsDrafted (i : Opened) (y : Patching) (plan : List ℕ) (e : Drafting
   pub pages : n.last.pages ≡ take e.taken plan
   pub freed : n.last.freed ≡ e.freed
 
--- the content that the patch makes, with its root; whole pages that the image does not name, with which the other image
--- would be that content's; and the pages that become used and free, so that all is stored as before
-pub record IsNext (i : Opened) (x : Content) (l : Layout) (used : List Bool) (patch : Patch) (n : Next) : Type 0 where
+-- the content that the patch makes, with its root; pages that the image does not name, with which the other image would
+-- be that content's in a file that has so many bytes; and the pages that become used and free, so that all is stored as
+-- before
+pub record IsNext (i : Opened) (x : Content) (l : Layout) (used : List Bool) (patch : Patch) (long : ℕ) (n : Next) : Type 0 where
   pub content : n.filing.content.content ≡ patched x patch
   pub root : n.root ≡ root_for (identity_of i) n.filing.content.content n.root.directory
   pub pages : ArePages i.blksize i.root.pgpool n.writes.items
@@ -55,4 +56,4 @@ pub record IsNext (i : Opened) (x : Content) (l : Layout) (used : List Bool) (pa
   pub freed : (m p : ℕ) → At n.last.freed m p → At used p true
   pub stored : IsStored (identity_of i) n.filing.content.content (layout_in n.root n.filing.table.slots) (flagged false (flagged true used n.last.pages) n.last.freed)
   pub apart : AllFree i.blksize i.second l n.writes.items
-  pub would_be : (h : List ℕ) → Stands (identity_of i) i.second x l h → WouldBe i n.writes.items n.root n.filing.content.content (layout_in n.root n.filing.table.slots) h
+  pub would_be : (h : List ℕ) → long ≤ length h → Stands (identity_of i) i.second x l h → WouldBe i n.writes.items n.root n.filing.content.content (layout_in n.root n.filing.table.slots) h

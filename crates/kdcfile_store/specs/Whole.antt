@@ -52,7 +52,7 @@ pub record IsWholeDraft (size pool : ℕ) (plan : List ℕ) (items : List Record
 abbrev pub AreUsed : Layout → List Bool → Type 0
 AreUsed l used = (u : Name) (p : ℕ) → Names l u p → At used p true
 
--- the content with its root; whole pages that no image on used pages names, with which, and the root, the other image
+-- the content with its root; pages that no image on used pages names, with which, and the root, the other image
 -- is that content's; and the pool, so that all is stored
 pub record IsWholeContent (used : List Bool) (j : Identity) (y : Content) (w : Whole) : Type 0 where
   pub content : w.filed.content ≡ y

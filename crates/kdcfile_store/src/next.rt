@@ -50,16 +50,17 @@ fn next_draft(
     table: Table,
     plan: &Plan,
     patch: &Patch,
+    long: u64,
 ) -> Result<Draft, Table>
     requires { CanDraft image.now table plan.now.pages patch.now.items }
-    ensures ok { IfOk result (λ d. Prepared image.now.blksize plan.now.pages patch.now.items (layout_in image.now.root table) d) }
+    ensures ok { IfOk result (λ d. Prepared image.now.blksize long plan.now.pages patch.now.items (layout_in image.now.root table) d) }
     ensures before { IfOk result (λ d. d.before ≡ table) }
     ensures err { IfErr result (λ kept. kept ≡ table) }
 {
     let Ok(directory) = image.root().directory.as_slice().to_vec(alloc) else {
         return Err(table);
     };
-    let mut draft = Draft::new(alloc, directory, table)?;
+    let mut draft = Draft::new(alloc, directory, table, long)?;
     let pages = plan.pages.as_slice();
     match draft.prepare(alloc, image.blksize(), pages, patch.items.as_slice()) {
         Ok(()) => Ok(draft),
@@ -100,20 +101,21 @@ fn next_of(image: &Image, content: PatchedContent, plan: Plan, draft: Draft) -> 
     }
 }
 
-/// All that a commit of this patch writes and keeps. What is kept is changed where it is, and comes back as it was where
-/// memory runs out.
+/// All that a commit of this patch writes and keeps, in a file that has `long` bytes. What is kept is changed where it is,
+/// and comes back as it was where memory runs out.
 pub(crate) fn make_next(
     alloc: Global,
     image: &Image,
     pool: &Pool,
     filed: Filed,
     patch: &Patch,
+    long: u64,
 ) -> Result<Next, Filed>
     requires stored { IsStored (identity_of image.now) filed.content (layout_in image.now.root filed.table) pool.now }
     requires patch { IsPatch patch.now }
     requires charge_before { total_charge image.now.blksize filed.content.items ≤ image.now.root.pgpool }
     requires charge_after { total_charge image.now.blksize (patched filed.content patch.now).items ≤ image.now.root.pgpool }
-    ensures ok { IfOk result (λ n. IsNext image.now filed.content (layout_in image.now.root filed.table) pool.now patch.now n) }
+    ensures ok { IfOk result (λ n. IsNext image.now filed.content (layout_in image.now.root filed.table) pool.now patch.now long n) }
     ensures table_before { IfOk result (λ n. n.filing.table.before ≡ filed.table) }
     ensures content_before { IfOk result (λ n. n.filing.content.before ≡ filed.content) }
     ensures err { IfErr result (λ kept. kept ≡ filed) }
@@ -126,7 +128,7 @@ pub(crate) fn make_next(
         Ok(content) => content,
         Err(content) => return Err(Filed { table, content }),
     };
-    match next_draft(alloc, image, table, &plan, patch) {
+    match next_draft(alloc, image, table, &plan, patch, long) {
         Ok(draft) => Ok(next_of(image, content, plan, draft)),
         Err(table) => Err(Filed {
             table,

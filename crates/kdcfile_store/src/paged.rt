@@ -1,11 +1,11 @@
 //! A store that keeps its content in pages: a commit writes the records that it changes on free pages, the pages of the
 //! directory with their slots, and the unselected root, and then selects that image.
-ghost use Rattle.std.specs.Prelude.{◌≡◌, ◌≤◌, ◌+◌, [], IsTrue, IfOk, OnOk, OnErr, IsErrOf};
+ghost use Rattle.std.specs.Prelude.{◌≡◌, ◌≤◌, ◌+◌, [], IsTrue, length, IfOk, OnOk, OnErr, IsErrOf};
 ghost use Rattle.kd_device.specs.{Device.{Rose, Frame, SameFaults, SameNames, Only}, Rest.{Rests}};
 ghost use Rattle.kd_records.specs.Identity.{IsIdentity};
 ghost use Rattle.kdcfile_layout.specs.Layout.{StandsFor, IsNoImage, fresh};
-ghost use Rattle.kd_records.specs.{Charge.{total_charge}, Contents.{IsContent}};
-ghost use Rattle.kdcfile_store.specs.{Carried.{LeavesCarried, carry_most}, Kept.{IsKept, write_most}, Paged.{HasFile, IsPaged, LeavesMade, identity_with, made_length}};
+ghost use Rattle.kd_records.specs.{Charge.{total_charge}, Contents.{IsContent, IsPatch, patched}};
+ghost use Rattle.kdcfile_store.specs.{Carried.{LeavesCarried, carry_most}, Kept.{IsKept, LeavesPatched, write_most}, Paged.{HasFile, IsPaged, LeavesMade, identity_with, made_length}};
 
 use crate::carrying::{Whole, make_whole};
 use crate::filed::Filed;
@@ -161,6 +161,59 @@ impl PagedStore {
         Ok(())
     }
 
+    // Makes these changes in a file that has `long` bytes.
+    fn commit_in<D: Device>(
+        &mut self,
+        alloc: Global,
+        device: &mut D,
+        patch: &Patch,
+        long: u64,
+    ) -> Result<(), DeviceError>
+        requires kept { IsTrue (D.state device.old).told → IsKept (HasFile self.old) (D.state device.old) (D.leaves device.old) }
+        requires patch { IsPatch patch.now }
+        requires charge_before { total_charge self.old.identity.blksize self.old.content.items ≤ self.old.identity.pages }
+        requires charge_after { total_charge self.old.identity.blksize (patched self.old.content patch.now).items ≤ self.old.identity.pages }
+        requires long { IsTrue (D.state device.old).told → long ≤ length (D.state device.old).holds }
+        ensures content { OnOk result (self.new.content ≡ patched self.old.content patch.now) }
+        ensures identity { self.new.identity ≡ self.old.identity }
+        ensures kept { OnOk result (IsTrue (D.state device.old).told → IsKept (HasFile self.new) (D.state device.new) (D.leaves device.new)) }
+        ensures sent { IsTrue (D.state device.old).told → (D.state device.new).sent ≡ (D.state device.old).sent }
+        ensures any_moment { IsTrue (D.state device.old).told → LeavesPatched (StandsFor self.old.identity) self.old.content patch.now (D.state device.old) (D.state device.new) (D.leaves device.old) (D.leaves device.new) }
+        ensures put_most { IsTrue (D.state device.old).told → (D.state device.new).put ≤ (D.state device.old).put + write_most self.old.identity self.old.content patch.now }
+        ensures failed { IsErrOf result DeviceError.Failed → Rose (D.state device.old).disk_faults (D.state device.new).disk_faults }
+        ensures memory { IsErrOf result DeviceError.Memory → IsTrue (D.state device.old).told → Rests (D.state device.old) (D.state device.new) (D.leaves device.old) (D.leaves device.new) }
+        ensures memory_store { IsErrOf result DeviceError.Memory → self.new ≡ self.old }
+        ensures fine { (IsErrOf result DeviceError.Failed → ⊥) → SameFaults (D.state device.old) (D.state device.new) }
+        ensures frame { Frame (D.state device.old) (D.state device.new) }
+        ensures names { SameNames (D.state device.old) (D.state device.new) }
+    {
+        let filed = mem::replace(&mut self.filed, Filed::nothing(alloc));
+        let next = match make_next(alloc, &self.image, &self.pool, filed, patch, long) {
+            Ok(next) => next,
+            Err(filed) => {
+                self.filed = filed;
+                return Err(DeviceError::Memory);
+            }
+        };
+        let Next {
+            filing,
+            root,
+            writes,
+            last,
+        } = next;
+        match commit_image(alloc, device, &mut self.image, writes, root) {
+            Ok(()) => {
+                self.filed = filing.done();
+                self.pool.carry_out(last);
+                Ok(())
+            }
+            Err(error) => {
+                self.filed = filing.back();
+                Err(error)
+            }
+        }
+    }
+
     /// A law: the store is in order. It does nothing.
     pub fn is_in_order(&self)
         ensures { IsPaged self.now }
@@ -210,31 +263,8 @@ impl<D: Device> Store<D> for PagedStore {
     }
 
     fn commit(&mut self, alloc: Global, device: &mut D, patch: &Patch) -> Result<(), DeviceError> {
-        let filed = mem::replace(&mut self.filed, Filed::nothing(alloc));
-        let next = match make_next(alloc, &self.image, &self.pool, filed, patch) {
-            Ok(next) => next,
-            Err(filed) => {
-                self.filed = filed;
-                return Err(DeviceError::Memory);
-            }
-        };
-        let Next {
-            filing,
-            root,
-            writes,
-            last,
-        } = next;
-        match commit_image(alloc, device, &mut self.image, writes, root) {
-            Ok(()) => {
-                self.filed = filing.done();
-                self.pool.carry_out(last);
-                Ok(())
-            }
-            Err(error) => {
-                self.filed = filing.back();
-                Err(error)
-            }
-        }
+        let long = device.size()?;
+        self.commit_in(alloc, device, patch, long)
     }
 
     ghost file_stands = { λ s bytes file. (s.second, s.layout, file) };

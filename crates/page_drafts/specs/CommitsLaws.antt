@@ -32,14 +32,14 @@ use Rattle.page_drafts.specs.ChargedLaws.{put_charged}
 use Rattle.page_drafts.specs.Drafts.{IsUnnamed, Drafted}
 use Rattle.page_drafts.specs.Drafting.{Drafting, IsOnPlan, IsDraft, unprepared}
 use Rattle.page_drafts.specs.Freed.{AreFreed}
-use Rattle.page_drafts.specs.OnPlanLaws.{pages_there, pages_written, plan_free}
+use Rattle.page_drafts.specs.OnPlanLaws.{total_most, pages_there, plan_free}
 use Rattle.page_drafts.specs.Prepared.{CanPrepare, Prepared}
 use Rattle.page_drafts.specs.PreparedLaws.{begun_anywhere}
 
 -- ---- a draft begins as an image, and ends as the other one
 
-pub begun_in : (i : Identity) (second : Bool) (x : Content) (l : Layout) (h : List ℕ) (plan : List ℕ) → IsImage i second x l h → chain_pages l.slots ≡ total_charge i.blksize x.items → IsUnnamed l plan → IsDraft i.blksize i.pages x.items plan (Some h) (unprepared l)
-begun_in i second x l h plan image charged unnamed = record {
+pub begun_in : (i : Identity) (second : Bool) (x : Content) (l : Layout) (h : List ℕ) (plan : List ℕ) (long : ℕ) → long ≤ length h → IsImage i second x l h → chain_pages l.slots ≡ total_charge i.blksize x.items → IsUnnamed l plan → IsDraft i.blksize i.pages x.items plan (Some h) (unprepared long l)
+begun_in i second x l h plan long le image charged unnamed = record {
   drafted = record {
     ascending = image.content.ascending;
     charged = charged;
@@ -49,7 +49,8 @@ begun_in i second x l h plan image charged unnamed = record {
     chains = image.chains;
   };
   on_plan = All-nil (IsOnPlan i.blksize plan);
-  total = omega arith;
+  count = omega arith;
+  long = le;
 }
 
 -- with no stale page, and the root written, it is the other image
@@ -122,23 +123,23 @@ module _ (i : Identity) (x : Content) (l : Layout) (used : List Bool) (stored : 
           );
     }
 
-    module _ (e : Drafting) (made : Prepared i.blksize plan changes l e) where
+    module _ (at_least : ℕ) (e : Drafting) (made : Prepared i.blksize at_least plan changes l e) where
       now : IsDraft i.blksize i.pages (changed_all x.items changes) plan None e
-      now = made.draft i.pages x.items None can_prepare (begun_anywhere i.blksize i.pages x.items plan changes l can_prepare)
+      now = made.draft i.pages x.items None can_prepare (begun_anywhere i.blksize i.pages x.items plan changes l can_prepare at_least)
 
       are : AreFreed l plan e.layout e.taken e.freed
       are = made.freed i.pages x.items can_prepare
 
       -- ---- the pages that are written
 
-      pub whole_pages : All (λ (w : PageWrite). (p : ℕ) × (p < page_count i.blksize i.pages) × (w.at ≡ page_place i.blksize p) × (length w.bytes ≡ i.blksize)) e.writes
-      whole_pages = pages_there i.blksize i.pages plan can_prepare.planned e.writes now.on_plan
+      pub are_pages : All (λ (w : PageWrite). (p : ℕ) × (p < page_count i.blksize i.pages) × (w.at ≡ page_place i.blksize p) × (length w.bytes ≤ i.blksize)) e.writes
+      are_pages = pages_there i.blksize i.pages plan can_prepare.planned e.writes now.on_plan
 
       pub count_pages : length e.writes ≡ e.taken
-      count_pages = pages_written i.blksize plan e.writes now.on_plan e.taken stored.identity.blksize now.total
+      count_pages = now.count
 
       pub bytes_most : total e.writes ≤ i.blksize * (put_charge i.blksize changes + length changes)
-      bytes_most = let le : e.taken ≤ put_charge i.blksize changes + length changes = made.most in omega (arith, now.total, mul-le-mul_left i.blksize le)
+      bytes_most = let le : e.taken ≤ put_charge i.blksize changes + length changes = made.most in omega (arith, ap (λ (n : ℕ). n * i.blksize) now.count, total_most i.blksize plan e.writes now.on_plan, mul-le-mul_left i.blksize le)
 
       pub pages_free : (second : Bool) → AllFree i.blksize second l e.writes
       pages_free second = plan_free i.blksize plan e.writes now.on_plan second l plan_unnamed
@@ -196,12 +197,12 @@ module _ (i : Identity) (x : Content) (l : Layout) (used : List Bool) (stored : 
 
       -- ---- the other image
 
-      module _ (second : Bool) (h : List ℕ) (stands : Stands i second x l h) (y : Content) (content : IsContent y) (items : y.items ≡ changed_all x.items changes) (print : List ℕ) (identity : IsIdentity (record i { fingerprint = print })) where
+      module _ (second : Bool) (h : List ℕ) (le : at_least ≤ length h) (stands : Stands i second x l h) (y : Content) (content : IsContent y) (items : y.items ≡ changed_all x.items changes) (print : List ℕ) (identity : IsIdentity (record i { fingerprint = print })) where
         -- the file with the pages, and with the root of this fingerprint as the other one, has the new content's image
         pub would_be : IsImage (record i { fingerprint = print }) (not second) y e.layout (written (written_all h e.writes) (root_place (not second)) (root (record i { fingerprint = print }) y e.layout.directory))
         would_be =
             let image = stands.image in
-            let begun : IsDraft i.blksize i.pages x.items plan (Some h) (unprepared l) = begun_in i second x l h plan image stored.charged plan_unnamed in
+            let begun : IsDraft i.blksize i.pages x.items plan (Some h) (unprepared at_least l) = begun_in i second x l h plan at_least le image stored.charged plan_unnamed in
             let draft = subst (λ (xs : List Record). IsDraft i.blksize i.pages xs plan (Some h) e) (sym items) (made.draft i.pages x.items (Some h) can_prepare begun) in
             let old = image_after i second x l h stands e.writes (pages_free second) in
             ended (record i { fingerprint = print }) identity second y e.layout e.stale plan e.taken (written_all h e.writes) draft.drafted made.clean old.headed (omega (arith, long i second x l h image, (all_keep e.writes h).no_shorter)) content

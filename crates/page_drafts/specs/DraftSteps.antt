@@ -1,5 +1,5 @@
 -- The steps of a draft: a record that is put, a record that is removed, a directory page that is written.
-use Rattle.std.proofs.Common.{ℕ, List, take, drop, Option, Some, None}
+use Rattle.std.proofs.Common.{ℕ, ◌≤◌, List, length, take, drop, Option, Some, None}
 use Rattle.kdcfile_layout.specs.declared.page.PageWrite.{PageWrite}
 use Rattle.kdcfile_layout.specs.Writes.{written_all}
 
@@ -12,3 +12,8 @@ next_pages plan t n = take n (drop t plan)
 abbrev pub after : Option (List ℕ) → List PageWrite → Option (List ℕ)
 after None ws = None
 after (Some h) ws = Some (written_all h ws)
+
+-- it has so many bytes
+abbrev pub HasLength : ℕ → Option (List ℕ) → Type 0
+HasLength n None = Unit {0}
+HasLength n (Some h) = n ≤ length h

@@ -18,11 +18,11 @@ use Rattle.kdcfile_layout.specs.Layout.{Layout, Part, Has, Name, InRoot, InChain
 use Rattle.kdcfile_layout.specs.PlacesLaws.{at_set, at_take, at_drop}
 use Rattle.page_drafts.specs.Counts.{if_any, over}
 use Rattle.page_drafts.specs.CountsLaws.{over_changed, ascending_changed, length_over}
-use Rattle.kdcfile_layout.specs.Pages.{Fits, padded, page_writes, pages_of}
-use Rattle.kdcfile_layout.specs.PagesLaws.{length_padded, other_page, this_page, other_pages, these_pages, pages_of_chain, parts_named, chain_fits}
+use Rattle.kdcfile_layout.specs.Pages.{Fits, padded, page_write, part_writes, pages_of}
+use Rattle.kdcfile_layout.specs.PagesLaws.{length_padded, other_page, this_page, other_parts, these_parts, pages_of_chain, parts_named, chain_fits}
 use Rattle.page_drafts.specs.Drafts.{IsPlan, Drafted, IsSlotFor, IsOutside}
 use Rattle.page_drafts.specs.DraftsLaws.{same_or_not, one_change}
-use Rattle.page_drafts.specs.DraftSteps.{next_pages, after}
+use Rattle.page_drafts.specs.DraftSteps.{next_pages, after, HasLength}
 
 -- ---- the plan's next pages
 
@@ -32,19 +32,19 @@ next_there plan t n a p h = let r = at_take (drop t plan) n a p h in (at_drop pl
 next_distinct : (plan : List ℕ) (t n : ℕ) → IsDistinct plan → IsDistinct (next_pages plan t n)
 next_distinct plan t n d a b p h k = let e : t + a ≡ t + b = d (t + a) (t + b) p (next_there plan t n a p h).0 (next_there plan t n b p k).0 in omega (arith, e)
 
-has_others : (size : ℕ) (file : Option (List ℕ)) (parts : List Part) (part : Part) → All (Fits size) parts → ((a : ℕ) → At (pages_of parts) a part.0 → ⊥) → Has size file part → Has size (after file (page_writes size parts)) part
-has_others size None parts part fit apart has = tt
-has_others size (Some h) parts part fit apart has = other_pages size parts h part fit apart has
+has_others : (size long : ℕ) (file : Option (List ℕ)) (parts : List Part) (part : Part) → All (Fits size) parts → ((a : ℕ) → At (pages_of parts) a part.0 → ⊥) → Has size file part → Has size (after file (part_writes size long parts)) part
+has_others size long None parts part fit apart has = tt
+has_others size long (Some h) parts part fit apart has = other_parts size long parts h part fit apart has
 
-has_these : (size : ℕ) (file : Option (List ℕ)) (parts : List Part) → All (Fits size) parts → IsDistinct (pages_of parts) → All (Has size (after file (page_writes size parts))) parts
-has_these size None parts fit distinct = λ n e lt. tt
-has_these size (Some h) parts fit distinct = these_pages size parts h fit distinct
+has_these : (size long : ℕ) (file : Option (List ℕ)) (parts : List Part) → HasLength long file → All (Fits size) parts → IsDistinct (pages_of parts) → All (Has size (after file (part_writes size long parts))) parts
+has_these size long None parts le fit distinct = λ n e lt. tt
+has_these size long (Some h) parts le fit distinct = these_parts size long parts h le fit distinct
 
-has_other : (size : ℕ) (file : Option (List ℕ)) (new : Part) → Fits size new → (part : Part) → (new.0 ≡ part.0 → ⊥) → Has size file part → Has size (after file (page_writes size (new ∷ []))) part
+has_other : (size : ℕ) (file : Option (List ℕ)) (new : Part) → Fits size new → (part : Part) → (new.0 ≡ part.0 → ⊥) → Has size file part → Has size (after file (page_write size new ∷ [])) part
 has_other size None new fit part apart has = tt
-has_other size (Some h) new fit part apart has = other_page size h new.0 (padded size new.1) (length_padded size new.1 fit) part apart has
+has_other size (Some h) new fit part apart has = other_page size h new.0 (padded size new.1) (omega (arith, length_padded size new.1 fit)) part apart has
 
-has_this : (size : ℕ) (file : Option (List ℕ)) (new : Part) → Fits size new → Has size (after file (page_writes size (new ∷ []))) new
+has_this : (size : ℕ) (file : Option (List ℕ)) (new : Part) → Fits size new → Has size (after file (page_write size new ∷ [])) new
 has_this size None new fit = tt
 has_this size (Some h) new fit = this_page size h new fit
 
@@ -53,7 +53,7 @@ has_this size (Some h) new fit = this_page size h new fit
 module _ (size pool : ℕ) (items : List Record) (l : Layout) (stale : List Bool) (plan : List ℕ) (t n : ℕ) (file : Option (List ℕ)) (d : Drafted size pool items l stale plan t file) (planned : IsPlan size pool plan) (k : RecordKey) (s : ℕ) (in_table : s < length l.slots)
     (own : (c : Chain) → At l.slots s (Some c) → c.key ≡ k) (only : (r : ℕ) (c : Chain) → At l.slots r (Some c) → c.key ≡ k → r ≡ s)
     (stale' : List Bool) (fewer : (j : ℕ) → At stale' j false → At stale j false × IsOutside size s j) where
-  module _ (v : List ℕ) (wide : length k.bytes ≡ 24) (block : 48 ≤ size) (enough : t + n ≤ length plan) (charge : n ≡ charge_of size (length v)) where
+  module _ (long : ℕ) (le : HasLength long file) (v : List ℕ) (wide : length k.bytes ≡ 24) (block : 48 ≤ size) (enough : t + n ≤ length plan) (charge : n ≡ charge_of size (length v)) where
     suits : IsSlotFor size k (Some v) plan t (t + n) (Some (record { key = k; pages = next_pages plan t n }))
     suits = record {
       key = λ c e. ap (λ (x : Chain). x.key) (sym (the e));
@@ -66,18 +66,18 @@ module _ (size pool : ℕ) (items : List Record) (l : Layout) (stale : List Bool
         the : {c : Chain} → Some (record { key = k; pages = next_pages plan t n }) ≡ Some c → record { key = k; pages = next_pages plan t n } ≡ c
         the e = cc
 
-    pub record_put : Drafted size pool (changed items (k, Some v)) (record l { slots = set l.slots s (Some (record { key = k; pages = next_pages plan t n })) }) stale' plan (t + n) (after file (page_writes size (record_parts size v (record { key = k; pages = next_pages plan t n }))))
+    pub record_put : Drafted size pool (changed items (k, Some v)) (record l { slots = set l.slots s (Some (record { key = k; pages = next_pages plan t n })) }) stale' plan (t + n) (after file (part_writes size long (record_parts size v (record { key = k; pages = next_pages plan t n }))))
     record_put =
         let c : Chain = record { key = k; pages = next_pages plan t n } in
         let parts = record_parts size v c in
         let same : pages_of parts ≡ next_pages plan t n = pages_of_chain (size - 48) k (length v) 0 v (next_pages plan t n) in
         let fit : All (Fits size) parts = chain_fits size (size - 48) k (length v) 0 v (next_pages plan t n) wide (omega (arith, block)) in
         one_change size pool items l stale plan t (t + n) file d planned k (Some v) s (Some c) in_table own only (omega arith) suits
-        (after file (page_writes size parts))
-        (λ part free stands. has_others size file parts part fit (λ a at. free (t + a) (omega arith) (next_there plan t n a part.0 (subst (λ (ps : List ℕ). At ps a part.0) same at)).0) stands)
-        (λ b w e f. subst (λ (x : Chain). All (Has size (after file (page_writes size parts))) (record_parts size w x)) (chain_is b e)
-        (subst (λ (y : List ℕ). All (Has size (after file (page_writes size parts))) (record_parts size y c)) (value_is w f)
-        (has_these size file parts fit (subst (λ (ps : List ℕ). IsDistinct ps) (sym same) (next_distinct plan t n planned.distinct)))))
+        (after file (part_writes size long parts))
+        (λ part free stands. has_others size long file parts part fit (λ a at. free (t + a) (omega arith) (next_there plan t n a part.0 (subst (λ (ps : List ℕ). At ps a part.0) same at)).0) stands)
+        (λ b w e f. subst (λ (x : Chain). All (Has size (after file (part_writes size long parts))) (record_parts size w x)) (chain_is b e)
+        (subst (λ (y : List ℕ). All (Has size (after file (part_writes size long parts))) (record_parts size y c)) (value_is w f)
+        (has_these size long file parts le fit (subst (λ (ps : List ℕ). IsDistinct ps) (sym same) (next_distinct plan t n planned.distinct)))))
         stale' fewer
       where
         chain_is : (b : Chain) → Some (record { key = k; pages = next_pages plan t n }) ≡ Some b → record { key = k; pages = next_pages plan t n } ≡ b
@@ -149,7 +149,7 @@ module _ (size pool : ℕ) (items : List Record) (l : Layout) (stale : List Bool
   another : (u : Name) (p : ℕ) → Names l u p → q ≡ p → ⊥
   another u p names e = d.unplanned u p t names (omega arith) (there ∙ ap (λ (m : ℕ). Some m) e)
 
-  pub directory_written : Drafted size pool items (record l { directory = set l.directory k q }) stale' plan (t + 1) (after file (page_writes size ((q, directory_text size k l.slots) ∷ [])))
+  pub directory_written : Drafted size pool items (record l { directory = set l.directory k q }) stale' plan (t + 1) (after file (page_write size (q, directory_text size k l.slots) ∷ []))
   directory_written =
       record {
         ascending = d.ascending;
@@ -178,8 +178,8 @@ module _ (size pool : ℕ) (items : List Record) (l : Layout) (stale : List Bool
             (name_now u p names);
         directory = λ j p at clean.
             ⊎_elim
-            (λ x. subst (λ (m : ℕ). Has size (after file (page_writes size ((q, directory_text size k l.slots) ∷ []))) (p, directory_text size m l.slots)) x.0
-            (subst (λ (m : ℕ). Has size (after file (page_writes size ((q, directory_text size k l.slots) ∷ []))) (m, directory_text size k l.slots)) x.1
+            (λ x. subst (λ (m : ℕ). Has size (after file (page_write size (q, directory_text size k l.slots) ∷ [])) (p, directory_text size m l.slots)) x.0
+            (subst (λ (m : ℕ). Has size (after file (page_write size (q, directory_text size k l.slots) ∷ [])) (m, directory_text size k l.slots)) x.1
             (has_this size file (q, directory_text size k l.slots) fit)))
             (λ y. has_other size file (q, directory_text size k l.slots) fit (p, directory_text size j l.slots) (another (InRoot j) p y.1) (d.directory j p y.1 (fewer j clean y.0)))
             (at_set l.directory k j q p at);

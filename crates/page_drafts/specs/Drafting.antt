@@ -8,14 +8,13 @@ use Rattle.kdcfile_layout.specs.Places.{At}
 use Rattle.kdcfile_layout.specs.declared.chain.Chain.{Chain}
 use Rattle.kdcfile_layout.specs.declared.page.PageWrite.{PageWrite}
 use Rattle.kdcfile_layout.specs.Layout.{Layout, slots_in_page, page_place, record_parts, directory_text}
-use Rattle.kdcfile_layout.specs.Pages.{page_write, page_writes}
-use Rattle.kdcfile_layout.specs.Writes.{total}
+use Rattle.kdcfile_layout.specs.Pages.{page_write, part_writes}
 use Rattle.page_drafts.specs.Drafts.{Drafted}
-use Rattle.page_drafts.specs.DraftSteps.{next_pages, after}
+use Rattle.page_drafts.specs.DraftSteps.{next_pages, after, HasLength}
 use Rattle.page_drafts.specs.Tables.{IsPlaceFor, IsAbsent, pages_in}
 
 -- the layout, which pages of the directory are stale, the writes, how many pages of the plan they take, the pages that
--- only the old layout names, and the slots of the old layout
+-- only the old layout names, the slots of the old layout, and a length that the file has
 pub record Drafting : Type 0 where
   pub layout : Layout
   pub stale : List Bool
@@ -23,10 +22,11 @@ pub record Drafting : Type 0 where
   pub taken : ℕ
   pub freed : List ℕ
   pub before : List (Option Chain)
+  pub long : ℕ
 
 -- nothing is prepared yet
-abbrev pub unprepared : Layout → Drafting
-unprepared l = record { layout = l; stale = replicate (length l.directory) false; writes = []; taken = 0; freed = []; before = l.slots }
+abbrev pub unprepared : ℕ → Layout → Drafting
+unprepared long l = record { layout = l; stale = replicate (length l.directory) false; writes = []; taken = 0; freed = []; before = l.slots; long = long }
 
 -- the directory page of this slot is stale
 abbrev pub touched : ℕ → ℕ → Drafting → Drafting
@@ -42,10 +42,11 @@ put_in size plan k v s d =
     record {
       layout = record d.layout { slots = set d.layout.slots s (Some (new_chain size plan k v d.taken)) };
       stale = set d.stale (s / slots_in_page size) true;
-      writes = d.writes ++ page_writes size (record_parts size v (new_chain size plan k v d.taken));
+      writes = d.writes ++ part_writes size d.long (record_parts size v (new_chain size plan k v d.taken));
       taken = d.taken + charge_of size (length v);
       freed = d.freed ++ pages_in (get_or d.layout.slots s None);
       before = d.before;
+      long = d.long;
     }
 
 -- the slot is freed
@@ -69,12 +70,13 @@ pub record IsPageWritten (size : ℕ) (plan : List ℕ) (k : ℕ) (d e : Draftin
   pub stale : e.stale ≡ set d.stale k false
   pub taken : e.taken ≡ d.taken + 1
   pub freed : e.freed ≡ d.freed ++ get_or d.layout.directory k 0 ∷ []
+  pub long : e.long ≡ d.long
 
 -- ---- what is kept
 
--- a whole page of the plan is written
+-- a page of the plan is written, or its front
 abbrev pub IsOnPlan : ℕ → List ℕ → PageWrite → Type 0
-IsOnPlan size plan w = (n : ℕ) × (q : ℕ) × At plan n q × (w.at ≡ page_place size q) × (length w.bytes ≡ size)
+IsOnPlan size plan w = (n : ℕ) × (q : ℕ) × At plan n q × (w.at ≡ page_place size q) × (length w.bytes ≤ size)
 
 -- the sizes of what is prepared
 pub record IsSized (size : ℕ) (d : Drafting) : Type 0 where
@@ -85,7 +87,8 @@ pub record IsSized (size : ℕ) (d : Drafting) : Type 0 where
 pub record IsDraft (size pool : ℕ) (items : List Record) (plan : List ℕ) (file : Option (List ℕ)) (d : Drafting) : Type 0 where
   pub drafted : Drafted size pool items d.layout d.stale plan d.taken (after file d.writes)
   pub on_plan : All (IsOnPlan size plan) d.writes
-  pub total : total d.writes ≡ d.taken * size
+  pub count : length d.writes ≡ d.taken
+  pub long : HasLength d.long file
 
 -- how many pages of the directory are stale
 abbrev pub stale_pages : Drafting → ℕ

@@ -1,12 +1,12 @@
 -- What is kept while a commit is prepared.
 use Rattle.std.specs.FinMap as map
-use Rattle.std.proofs.Common.{◌≡◌, inl, inr, ℕ, ◌+◌, ◌-◌, ◌*◌, ◌/◌, ◌<◌, ◌≤◌, Bool, true, false, cond, List, [], ◌∷◌, ◌++◌, length, drop, Option, Some, None, refl, ap, sym, subst, ◌∙◌, arith}
+use Rattle.std.proofs.Common.{◌≡◌, inl, inr, ℕ, ◌+◌, ◌-◌, ◌*◌, ◌/◌, ◌<◌, ◌≤◌, Bool, true, false, cond, List, [], ◌∷◌, ◌++◌, length, drop, Option, Some, None, refl, ap, sym, subst, ◌∙◌, arith, length-append}
 use Rattle.std.specs.Prelude.{All, set, get_or}
 use Rattle.std.specs.List.{count_by}
 use Rattle.std.proofs.lemmas.Nat.{div_below}
 use Rattle.std.proofs.lemmas.Option.{get_or_from_slice_get}
 use Rattle.std.proofs.lemmas.List.{length-set, length-take, length-drop, length-map}
-use Rattle.std.proofs.lemmas.List.Sums.{sum_by-append, sum_by-cons, sum_by-set}
+use Rattle.std.proofs.lemmas.List.Sums.{sum_by-set}
 use Rattle.std.proofs.lemmas.List.Elements.{All-nil, All-cons, All-append, All-map}
 use Rattle.kd_records.specs.declared.key.RecordKey.{RecordKey}
 use Rattle.kd_records.specs.Keys.{key_cmp}
@@ -14,15 +14,14 @@ use Rattle.kd_records.specs.Contents.{Record, changed}
 use Rattle.kd_records.specs.Charge.{IsBlockSize, charge_of}
 use Rattle.kd_records.specs.ChargeLaws.{block_from}
 use Rattle.kdcfile_layout.specs.declared.page.PageWrite.{PageWrite}
-use Rattle.kdcfile_layout.specs.Writes.{total}
 use Rattle.kdcfile_layout.specs.Places.{At}
 use Rattle.kdcfile_layout.specs.Layout.{Layout, Part, slots_in_page, record_parts, directory_text}
-use Rattle.kdcfile_layout.specs.Pages.{Fits, page_write, page_writes}
+use Rattle.kdcfile_layout.specs.Pages.{Fits, page_write, part_write, part_writes}
 use Rattle.kdcfile_layout.specs.CrashLaws.{some_slots}
-use Rattle.kdcfile_layout.specs.WritesLaws.{written_joined}
-use Rattle.kdcfile_layout.specs.PagesLaws.{length_padded, total_pages, parts_named, pages_of_chain, chain_fits}
+use Rattle.kdcfile_layout.specs.WritesLaws.{written_joined, longer}
+use Rattle.kdcfile_layout.specs.PagesLaws.{length_padded, length_part, parts_named, pages_of_chain, chain_fits}
 use Rattle.page_drafts.specs.Drafts.{IsPlan, Drafted}
-use Rattle.page_drafts.specs.DraftSteps.{after, next_pages}
+use Rattle.page_drafts.specs.DraftSteps.{after, next_pages, HasLength}
 use Rattle.page_drafts.specs.DraftStepsLaws.{next_there, record_put, record_removed, nothing_removed, directory_written, fewer_clean, clean_page}
 use Rattle.page_drafts.specs.Drafting.{Drafting, new_chain, put_in, IsRemoved, IsPageWritten, IsOnPlan, IsSized, IsDraft, stale_pages}
 use Rattle.page_drafts.specs.Tables.{IsPlaceFor, IsAbsent}
@@ -39,6 +38,11 @@ after_joined (Some h) xs ys = some_file _ _ (written_joined h xs ys)
   where
     some_file : (a b : List ℕ) → a ≡ b → Some a ≡ Some b
     some_file a b e = cc
+
+-- writes cut nothing off
+after_long : (long : ℕ) (file : Option (List ℕ)) (ws : List PageWrite) → HasLength long file → HasLength long (after file ws)
+after_long long None ws le = tt
+after_long long (Some h) ws le = omega (arith, le, longer ws h)
 
 count_set : (stale : List Bool) (j : ℕ) (b : Bool) → j < length stale → count_by (λ c. c) (set stale j b) + cond (get_or stale j false) 1 0 ≡ count_by (λ c. c) stale + cond b 1 0
 count_set stale j b lt = sum_by-set (λ (c : Bool). cond c 1 0) stale j b false lt
@@ -58,12 +62,12 @@ module _ (size pool : ℕ) (plan : List ℕ) (planned : IsPlan size pool plan) (
     fit : All (Fits size) (record_parts size v (new_chain size plan k v d.taken))
     fit = chain_fits size (size - 48) k (length v) 0 v (next_pages plan d.taken (charge_of size (length v))) wide (omega (arith, wide_enough))
 
-    writes_on_plan : All (IsOnPlan size plan) (page_writes size (record_parts size v (new_chain size plan k v d.taken)))
+    writes_on_plan : All (IsOnPlan size plan) (part_writes size d.long (record_parts size v (new_chain size plan k v d.taken)))
     writes_on_plan =
         let c = new_chain size plan k v d.taken in
         let named = parts_named (size - 48) k (length v) 0 v c.pages in
-        All-map (IsOnPlan size plan) (λ (p : Part). page_write size p) (record_parts size v (new_chain size plan k v d.taken))
-        (λ n e lt. let a = named n e lt in (d.taken + a.0, (get_or (record_parts size v (new_chain size plan k v d.taken)) n e).0, (next_there plan d.taken (charge_of size (length v)) a.0 _ a.1).0, refl, length_padded size _ (fit n e lt)))
+        All-map (IsOnPlan size plan) (λ (p : Part). part_write size d.long p) (record_parts size v (new_chain size plan k v d.taken))
+        (λ n e lt. let a = named n e lt in (d.taken + a.0, (get_or (record_parts size v (new_chain size plan k v d.taken)) n e).0, (next_there plan d.taken (charge_of size (length v)) a.0 _ a.1).0, refl, length_part size _ (fit n e lt) d.long))
 
     length_parts : length (record_parts size v (new_chain size plan k v d.taken)) ≡ charge_of size (length v)
     length_parts =
@@ -75,11 +79,12 @@ module _ (size pool : ℕ) (plan : List ℕ) (planned : IsPlan size pool plan) (
         let c = new_chain size plan k v d.taken in
         record {
           drafted =
-              subst (λ (f : Option (List ℕ)). Drafted size pool (changed items (k, Some v)) (put_in size plan k v s d).layout (put_in size plan k v s d).stale plan (put_in size plan k v s d).taken f) (sym (after_joined file d.writes (page_writes size (record_parts size v c))))
+              subst (λ (f : Option (List ℕ)). Drafted size pool (changed items (k, Some v)) (put_in size plan k v s d).layout (put_in size plan k v s d).stale plan (put_in size plan k v s d).taken f) (sym (after_joined file d.writes (part_writes size d.long (record_parts size v c))))
               (record_put size pool items d.layout d.stale plan d.taken (charge_of size (length v)) (after file d.writes) is.drafted planned k s place.there place.own place.only
-              (set d.stale (s / slots_in_page size) true) (fewer_clean size s d.stale (some_slots size block)) v wide wide_enough enough refl);
-          on_plan = All-append (IsOnPlan size plan) d.writes (page_writes size (record_parts size v c)) is.on_plan writes_on_plan;
-          total = omega (arith, sum_by-append (λ (w : PageWrite). length w.bytes) d.writes (page_writes size (record_parts size v c)), is.total, total_pages size (record_parts size v c) fit, ap (λ (n : ℕ). n * size) length_parts);
+              (set d.stale (s / slots_in_page size) true) (fewer_clean size s d.stale (some_slots size block)) d.long (after_long d.long file d.writes is.long) v wide wide_enough enough refl);
+          on_plan = All-append (IsOnPlan size plan) d.writes (part_writes size d.long (record_parts size v c)) is.on_plan writes_on_plan;
+          count = omega (arith, length-append d.writes (part_writes size d.long (record_parts size v c)), is.count, length-map (record_parts size v c) (λ (p : Part). part_write size d.long p), length_parts);
+          long = is.long;
         }
 
   pub no_record : (k : RecordKey) → IsAbsent k d.layout.slots → map.find key_cmp k items ≡ None
@@ -92,13 +97,14 @@ module _ (size pool : ℕ) (plan : List ℕ) (planned : IsPlan size pool plan) (
   pub removed_kept : (k : RecordKey) (e : Drafting) → IsRemoved size k d e → IsDraft size pool (changed items (k, None)) plan file e
   removed_kept k e (inl (absent, same)) =
       subst (λ (x : Drafting). IsDraft size pool (changed items (k, None)) plan file x) (sym same)
-      (record { drafted = nothing_removed size pool items d.layout d.stale plan d.taken (after file d.writes) is.drafted k (no_record k absent); on_plan = is.on_plan; total = is.total })
+      (record { drafted = nothing_removed size pool items d.layout d.stale plan d.taken (after file d.writes) is.drafted k (no_record k absent); on_plan = is.on_plan; count = is.count; long = is.long })
   removed_kept k e (inr (s, place, same)) =
       subst (λ (x : Drafting). IsDraft size pool (changed items (k, None)) plan file x) (sym same)
       (record {
         drafted = record_removed size pool items d.layout d.stale plan d.taken 0 (after file d.writes) is.drafted planned k s place.there place.own place.only (set d.stale (s / slots_in_page size) true) (fewer_clean size s d.stale (some_slots size block));
         on_plan = is.on_plan;
-        total = is.total;
+        count = is.count;
+        long = is.long;
       })
 
   pub page_kept : (k : ℕ) (e : Drafting) → k < length d.layout.directory → IsPageWritten size plan k d e → IsDraft size pool items plan file e
@@ -117,8 +123,9 @@ module _ (size pool : ℕ) (plan : List ℕ) (planned : IsPlan size pool plan) (
         on_plan =
             subst (λ (ws : List PageWrite). All (IsOnPlan size plan) ws) (sym w.page.3)
             (All-append (IsOnPlan size plan) d.writes (page_write size (q, text) ∷ []) is.on_plan
-            (All-cons (IsOnPlan size plan) (page_write size (q, text)) [] (d.taken, q, w.page.1, refl, length_padded size text w.fits) (All-nil (IsOnPlan size plan))));
-        total = omega (arith, ap (λ (ws : List PageWrite). total ws) w.page.3, sum_by-append (λ (v : PageWrite). length v.bytes) d.writes (page_write size (q, text) ∷ []), sum_by-cons (λ (v : PageWrite). length v.bytes) (page_write size (q, text)) [], is.total, length_padded size text w.fits, ap (λ (n : ℕ). n * size) w.taken);
+            (All-cons (IsOnPlan size plan) (page_write size (q, text)) [] (d.taken, q, w.page.1, refl, omega (arith, length_padded size text w.fits)) (All-nil (IsOnPlan size plan))));
+        count = omega (arith, ap (λ (ws : List PageWrite). length ws) w.page.3, length-append d.writes (page_write size (q, text) ∷ []), is.count, w.taken);
+        long = subst (λ (n : ℕ). HasLength n file) (sym w.long) is.long;
       }
 
 -- ---- sizes, and how many pages are stale

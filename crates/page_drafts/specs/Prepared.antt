@@ -21,9 +21,9 @@ pub record CanPrepare (size pool : ℕ) (items : List Record) (plan : List ℕ) 
   pub changes_ascending : IsTrue (is_sorted key_cmp changes)
   pub slots : length (changed_all items changes) ≤ length l.slots
 
--- from this layout all changes are prepared
-pub record Prepared (size : ℕ) (plan : List ℕ) (changes : List Change) (l : Layout) (e : Drafting) : Type 0 where
-  pub draft : (pool : ℕ) (items : List Record) (file : Option (List ℕ)) → CanPrepare size pool items plan changes l → IsDraft size pool items plan file (unprepared l) → IsDraft size pool (changed_all items changes) plan file e
+-- from this layout all changes are prepared, for a file that has so many bytes
+pub record Prepared (size long : ℕ) (plan : List ℕ) (changes : List Change) (l : Layout) (e : Drafting) : Type 0 where
+  pub draft : (pool : ℕ) (items : List Record) (file : Option (List ℕ)) → CanPrepare size pool items plan changes l → IsDraft size pool items plan file (unprepared long l) → IsDraft size pool (changed_all items changes) plan file e
   pub clean : (k : ℕ) → k < length e.layout.directory → At e.stale k false
   pub most : e.taken ≤ put_charge size changes + length changes
   pub enough : e.taken ≤ length plan

@@ -20,9 +20,9 @@ use Rattle.page_drafts.specs.Prepared.{CanPrepare, Prepared}
 none_stale : (n : ℕ) → count_by (λ b. b) (replicate n false) ≡ 0
 none_stale n = omega (arith, sum_by-replicate (λ (b : Bool). cond b 1 0) n false)
 
-module _ (size pool : ℕ) (items : List Record) (plan : List ℕ) (changes : List Change) (l : Layout) (can : CanPrepare size pool items plan changes l) where
+module _ (size pool : ℕ) (items : List Record) (plan : List ℕ) (changes : List Change) (l : Layout) (can : CanPrepare size pool items plan changes l) (long : ℕ) where
   -- a draft of what is there, on any device
-  pub begun_anywhere : IsDraft size pool items plan None (unprepared l)
+  pub begun_anywhere : IsDraft size pool items plan None (unprepared long l)
   begun_anywhere = record {
     drafted = record {
       ascending = can.ascending;
@@ -33,20 +33,21 @@ module _ (size pool : ℕ) (items : List Record) (plan : List ℕ) (changes : Li
       chains = λ s c v at found. λ n e lt. tt;
     };
     on_plan = All-nil (IsOnPlan size plan);
-    total = omega arith;
+    count = omega arith;
+    long = tt;
   }
 
-  pub begun_sized : IsSized size (unprepared l)
+  pub begun_sized : IsSized size (unprepared long l)
   begun_sized = record {
     stale = length-replicate (length l.directory) false;
     slots = can.layout.slots ∙ ap (λ (n : ℕ). n * slots_in_page size) (sym can.layout.directory);
   }
 
-module _ (size : ℕ) (plan : List ℕ) (changes : List Change) (l : Layout) (e : Drafting) (removes : RemovesAll size changes (unprepared l) e) where
+module _ (size long : ℕ) (plan : List ℕ) (changes : List Change) (l : Layout) (e : Drafting) (removes : RemovesAll size changes (unprepared long l) e) where
   pub room_after : (pool : ℕ) (items : List Record) → CanPrepare size pool items plan changes l → HasRoom size pool (removed_all items changes) plan changes e
   room_after pool items can = record {
     planned = can.planned;
-    draft = removes.draft pool items plan None can.planned (begun_anywhere size pool items plan changes l can);
+    draft = removes.draft pool items plan None can.planned (begun_anywhere size pool items plan changes l can long);
     slots = omega (arith, ap (λ (xs : List Record). length xs) (two_passes items changes can.ascending can.changes_ascending), can.slots, removes.slots);
   }
 
@@ -63,7 +64,7 @@ module _ (size : ℕ) (plan : List ℕ) (changes : List Change) (l : Layout) (e 
     pub pages_after : put_charge size changes + min (length changes) (length l.directory) ≤ length plan → f.taken + stale_pages f ≤ length plan
     pages_after enough = omega (arith, puts.taken, removes.taken, enough, stale_most, stale_within)
 
-    pub prepared : (g : Drafting) → put_charge size changes + min (length changes) (length l.directory) ≤ length plan → Freshens size plan (length f.layout.directory) f g → Prepared size plan changes l g
+    pub prepared : (g : Drafting) → put_charge size changes + min (length changes) (length l.directory) ≤ length plan → Freshens size plan (length f.layout.directory) f g → Prepared size long plan changes l g
     prepared g enough freshens = record {
       draft = λ pool items file can draft.
           let first = removes.draft pool items plan file can.planned draft in
@@ -75,7 +76,7 @@ module _ (size : ℕ) (plan : List ℕ) (changes : List Change) (l : Layout) (e 
       directory = freshens.directory ∙ ap (λ (d : List ℕ). length d) same_directory;
       slots = ap (λ (s : List (Option Chain)). length s) freshens.slots ∙ puts.slots ∙ removes.slots;
       freed = λ pool items can.
-          let none = begun_anywhere size pool items plan changes l can in
+          let none = begun_anywhere size pool items plan changes l can long in
           let first = removes.draft pool items plan None can.planned none in
           let second = puts.draft pool (removed_all items changes) None can.planned first in
           freshens.freed pool (put_all (removed_all items changes) changes) None l can.planned second can.unnamed (λ j p le at. subst (λ (d : List ℕ). At d j p) same_directory at)

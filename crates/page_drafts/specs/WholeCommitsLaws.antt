@@ -1,6 +1,6 @@
 -- A commit of a whole content: what it writes is, with the root, the other image, also one with other sizes and another
 -- fingerprint; and where just the pages of its plan are used, all is stored.
-use Rattle.std.proofs.Common.{◌≡◌, ℕ, ◌+◌, ◌*◌, ◌≤◌, Bool, true, not, List, length, Option, None, Some, sym, subst, arith}
+use Rattle.std.proofs.Common.{◌≡◌, ℕ, ◌+◌, ◌*◌, ◌≤◌, Bool, true, not, List, length, Option, None, Some, ap, sym, subst, arith}
 use Rattle.std.proofs.Math.Nat.{mul-le-mul_left}
 use Rattle.kd_device.specs.Device.{written}
 use Rattle.kd_records.specs.declared.content.Content.{Content}
@@ -17,7 +17,7 @@ use Rattle.kdcfile_layout.specs.Stored.{IsStored}
 use Rattle.page_drafts.specs.CommitsLaws.{ended}
 use Rattle.page_drafts.specs.Drafts.{IsUnnamed}
 use Rattle.page_drafts.specs.Drafting.{Drafting, IsDraft}
-use Rattle.page_drafts.specs.OnPlanLaws.{pages_written, plan_free}
+use Rattle.page_drafts.specs.OnPlanLaws.{total_most, plan_free}
 use Rattle.page_drafts.specs.WholeDrafts.{CanPrepareWhole, PreparedWhole}
 
 module _ (j : Identity) (is : IsIdentity j) (y : Content) (content : IsContent y) (plan : List ℕ) (from : Layout) (can : CanPrepareWhole j.blksize j.pages y.items plan from) (e : Drafting) (made : PreparedWhole j.blksize plan y.items from e) where
@@ -27,10 +27,10 @@ module _ (j : Identity) (is : IsIdentity j) (y : Content) (content : IsContent y
   -- ---- the pages that are written
 
   pub whole_count : length e.writes ≡ e.taken
-  whole_count = pages_written j.blksize plan e.writes (draft None).on_plan e.taken is.blksize (draft None).total
+  whole_count = (draft None).count
 
   pub whole_most : total e.writes ≤ j.blksize * (total_charge j.blksize y.items + length from.directory)
-  whole_most = let le : e.taken ≤ total_charge j.blksize y.items + length from.directory = made.most in omega (arith, (draft None).total, mul-le-mul_left j.blksize le)
+  whole_most = let le : e.taken ≤ total_charge j.blksize y.items + length from.directory = made.most in omega (arith, ap (λ (n : ℕ). n * j.blksize) whole_count, total_most j.blksize plan e.writes (draft None).on_plan, mul-le-mul_left j.blksize le)
 
   pub whole_free : (second : Bool) (l : Layout) → IsUnnamed l plan → AllFree j.blksize second l e.writes
   whole_free = plan_free j.blksize plan e.writes (draft None).on_plan

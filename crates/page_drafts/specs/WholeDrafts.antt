@@ -9,9 +9,9 @@ use Rattle.kdcfile_layout.specs.Layout.{Layout, IsLayout, Name, Names}
 use Rattle.page_drafts.specs.Drafts.{IsPlan, IsUnnamed}
 use Rattle.page_drafts.specs.Drafting.{Drafting, IsDraft, unprepared}
 
--- nothing is prepared yet, and all pages of the directory are stale
+-- nothing is prepared yet, all pages of the directory are stale, and each page is to be written whole
 abbrev pub unwritten : Layout → Drafting
-unwritten l = record (unprepared l) { stale = replicate (length l.directory) true }
+unwritten l = record (unprepared 0 l) { stale = replicate (length l.directory) true }
 
 -- the changes that put these records
 abbrev pub puts_of : List Record → List Change

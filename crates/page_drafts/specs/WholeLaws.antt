@@ -19,6 +19,7 @@ use Rattle.kdcfile_layout.specs.PlacesLaws.{at_one, at_within}
 use Rattle.kdcfile_layout.specs.declared.chain.Chain.{Chain}
 use Rattle.kdcfile_layout.specs.Layout.{Layout, Name, InRoot, InChain, Names, if_used, used, chain_pages}
 use Rattle.kdcfile_layout.specs.Bound.{charge_put, put_charge}
+use Rattle.page_drafts.specs.DraftSteps.{HasLength}
 use Rattle.page_drafts.specs.Drafting.{Drafting, IsOnPlan, IsDraft, stale_pages}
 use Rattle.page_drafts.specs.DraftRuns.{put_all, AreWide, PutsOne, PutsAll, HasRoom, Freshens}
 use Rattle.page_drafts.specs.DraftRunsLaws.{enough_here, puts_more, room_at}
@@ -113,6 +114,10 @@ module _ (size : ℕ) (items : List Record) (plan : List ℕ) (l : Layout) where
     no_chain : (s : ℕ) (c : Chain) → At l.slots s (Some c) → ⊥
     no_chain s c at = let v = can.layout.table.kept s c at in none-some v.0 v.1
 
+    no_length : (file : Option (List ℕ)) → HasLength 0 file
+    no_length None = tt
+    no_length (Some h) = omega arith
+
     begun : (file : Option (List ℕ)) → IsDraft size pool [] plan file (unwritten l)
     begun file = record {
       drafted = record {
@@ -124,7 +129,8 @@ module _ (size : ℕ) (items : List Record) (plan : List ℕ) (l : Layout) where
         chains = λ s c v at found. absurd (no_chain s c at);
       };
       on_plan = All-nil (IsOnPlan size plan);
-      total = omega arith;
+      count = omega arith;
+      long = no_length file;
     }
 
     pub room : HasRoom size pool [] plan (puts_of items) (unwritten l)

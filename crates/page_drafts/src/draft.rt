@@ -21,7 +21,7 @@ use std::alloc::Global;
 use std::marker::Model;
 
 /// What a commit has prepared so far: the layout, which pages of the directory are stale, the writes, how many pages of
-/// the plan they take, and the pages that only the old layout names.
+/// the plan they take, the pages that only the old layout names, and a length in bytes that the file has.
 #[derive(Drop)]
 pub struct Draft {
     directory: Vec<u32>,
@@ -30,6 +30,7 @@ pub struct Draft {
     writes: Vec<PageWrite>,
     taken: usize,
     freed: Vec<u32>,
+    long: u64,
 }
 
 /// A draft in parts: the numbers of the directory's pages, the slots, which can be taken back, what is to be written, how many pages of the plan
@@ -48,7 +49,7 @@ impl Model for Draft {
 
     ghost Value = { Drafting };
 
-    ghost view = { λ d. record { layout = record { directory = d.directory.items; slots = d.table.slots }; stale = d.stale.items; writes = d.writes.items; taken = d.taken; freed = d.freed.items; before = d.table.before } };
+    ghost view = { λ d. record { layout = record { directory = d.directory.items; slots = d.table.slots }; stale = d.stale.items; writes = d.writes.items; taken = d.taken; freed = d.freed.items; before = d.table.before; long = d.long } };
 }
 
 /// So many pages of the plan, from this one on.
@@ -92,7 +93,7 @@ impl Draft {
         let count = charge(value.len() as u64, size) as usize;
         let pages = planned(alloc, plan, self.taken, count)?;
         let chain = Chain { key, pages };
-        put_chain(alloc, size, &chain, value, &mut self.writes)?;
+        put_chain(alloc, size, self.long, &chain, value, &mut self.writes)?;
         let place = self.table.put(chain, &mut self.freed)?;
         self.touch(size, place);
         self.taken += count;
@@ -291,13 +292,13 @@ impl Draft {
         changes: &[(RecordKey, Option<Bytes>)],
     ) -> Result<(), OutOfMemory>
         requires size { IsBlockSize size }
-        requires fresh { self.old ≡ unprepared self.old.layout }
+        requires fresh { self.old ≡ unprepared self.old.long self.old.layout }
         requires values { (k : ℕ) (c : Change) (v : List ℕ) → At changes.now k c → c.1 ≡ Some v → length v < 2 ^ 32 }
         requires wide { AreWide changes.now }
         requires enough { put_charge size changes.now + min (length changes.now) (length self.old.layout.directory) ≤ length plan.now }
         requires plan { length plan.now < 2 ^ 32 }
         requires room { (pool : ℕ) × (items : List Record) × CanPrepare size pool items plan.now changes.now self.old.layout }
-        ensures ok { OnOk result (Prepared size plan.now changes.now self.old.layout self.new) }
+        ensures ok { OnOk result (Prepared size self.old.long plan.now changes.now self.old.layout self.new) }
         ensures before { self.new.before ≡ self.old.before }
     {
         self.remove_all(size, changes)?;
@@ -326,17 +327,18 @@ impl Draft {
         self.freshen_all(alloc, size, plan)
     }
 
-    /// A draft of a whole content, over a directory with these numbers and slots of which no page is written yet.
+    /// A draft of a whole content, over a directory with these numbers and slots of which no page is written yet. It writes
+    /// whole pages.
     pub fn unwritten(alloc: Global, directory: Vec<u32>, table: Table) -> Result<Draft, OutOfMemory>
         ensures { IfOk result (λ d. d ≡ unwritten (record { directory = directory.items; slots = table })) }
     {
         let stale = vec![in alloc; true; directory.len()]?;
-        Ok(Draft::begun(alloc, directory, table, stale))
+        Ok(Draft::begun(alloc, directory, table, stale, 0))
     }
 
     // Nothing is prepared yet. It takes no memory.
-    fn begun(alloc: Global, directory: Vec<u32>, table: Table, stale: Vec<bool>) -> Draft
-        ensures { result ≡ record (unprepared (record { directory = directory.items; slots = table })) { stale = stale.items } }
+    fn begun(alloc: Global, directory: Vec<u32>, table: Table, stale: Vec<bool>, long: u64) -> Draft
+        ensures { result ≡ record (unprepared long (record { directory = directory.items; slots = table })) { stale = stale.items } }
     {
         Draft {
             directory,
@@ -345,19 +347,21 @@ impl Draft {
             writes: Vec::new(alloc),
             taken: 0,
             freed: Vec::new(alloc),
+            long,
         }
     }
 
-    /// A draft that begins from the layout of a directory with these pages and slots. Where memory runs out, it gives the
+    /// A draft that begins from the layout of a directory with these pages and slots, in a file that has `long` bytes: of a
+    /// record's page that lies within them, it writes no more than what the page says. Where memory runs out, it gives the
     /// slots back.
-    pub fn new(alloc: Global, directory: Vec<u32>, table: Table) -> Result<Draft, Table>
-        ensures ok { IfOk result (λ d. d ≡ unprepared (record { directory = directory.items; slots = table })) }
+    pub fn new(alloc: Global, directory: Vec<u32>, table: Table, long: u64) -> Result<Draft, Table>
+        ensures ok { IfOk result (λ d. d ≡ unprepared long (record { directory = directory.items; slots = table })) }
         ensures err { IfErr result (λ kept. kept ≡ table) }
     {
         let Ok(stale) = vec![in alloc; false; directory.len()] else {
             return Err(table);
         };
-        Ok(Draft::begun(alloc, directory, table, stale))
+        Ok(Draft::begun(alloc, directory, table, stale, long))
     }
 
     /// The slots as they were before. It takes no memory, and costs as much as the changes did.

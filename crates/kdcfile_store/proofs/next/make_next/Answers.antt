@@ -24,4 +24,4 @@ next_of-requires-clause-few c = few_records c.args.image.now _ _ _ _ c.requires.
 pub returns-in-Ok-next_draft-clause-ok : goal.returns-in-Ok-next_draft-clause-ok
 returns-in-Ok-next_draft-clause-ok c =
     is_next c.args.image.now _ _ _ _ c.requires.stored c.requires.patch c.requires.charge_before c.requires.charge_after c.in-Ok-patch_in_place.content (ap (λ (p : Patching). p.content) c.in-Ok-patch_in_place.ensures.ok ∙ ap (λ (f : List (Option Chain) × Content). patched f.1 c.args.patch.now) c.into_parts-table.ensures) _ _ c.in-Ok.ensures
-    (few_planned c.args.image.now _ _ _ _ c.requires.stored c.requires.patch c.requires.charge_before c.requires.charge_after _ c.in-Ok.ensures) _ (subst (λ (f : List (Option Chain) × Content). Prepared c.args.image.now.blksize c.in-Ok.plan.pages c.args.patch.now.items (layout_in c.args.image.now.root f.0) c.in-Ok-next_draft.draft) c.into_parts-table.ensures c.in-Ok-next_draft.ensures.ok) _ c.next_of.ensures
+    (few_planned c.args.image.now _ _ _ _ c.requires.stored c.requires.patch c.requires.charge_before c.requires.charge_after _ c.in-Ok.ensures) c.args.long _ (subst (λ (f : List (Option Chain) × Content). Prepared c.args.image.now.blksize c.args.long c.in-Ok.plan.pages c.args.patch.now.items (layout_in c.args.image.now.root f.0) c.in-Ok-next_draft.draft) c.into_parts-table.ensures c.in-Ok-next_draft.ensures.ok) _ c.next_of.ensures
