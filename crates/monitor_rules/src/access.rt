@@ -1,9 +1,4 @@
 //! Who may start what: the rule of locks and keys.
-//!
-//! It stands on the generation and on the definitions of the abstract monitor. To the layers above, which ask before a
-//! dialogue service begins, its contract says whether the rule denies a TAC to a user at an LTERM, and for whose lack
-//! of which code.
-
 ghost use Rattle.std.specs.Prelude.{◌≡◌};
 ghost use Rattle.abstract_monitor.specs.Access.{denial_of};
 
