@@ -1,8 +1,8 @@
 -- What can be next, and the walks one after another.
-use Rattle.std.proofs.Common.{◌≡◌, ℕ, zero, suc, ◌+◌, ◌-◌, ◌<◌, ◌≤◌, List, [], ◌∷◌, ◌++◌, inl, inr, refl, sym, ap, subst, ◌∙◌, append_assoc, arith, get_or, drop, take, length}
+use Rattle.std.proofs.Common.{◌≡◌, ℕ, zero, suc, ◌+◌, ◌-◌, ◌<◌, ◌≤◌, List, [], ◌∷◌, ◌++◌, inl, inr, refl, sym, ap, subst, ◌∙◌, arith, get_or, drop, take, length}
 use Rattle.std.specs.Prelude.{◌⊎◌, Bool, true, false, not, ◌||◌, ◌==◌, IsTrue, All, cond}
 use Rattle.std.proofs.lemmas.Bool.{eq-eqb, eqb-true, true≢false}
-use Rattle.std.proofs.lemmas.List.{drop_all, drop_more, length-append, take-append-drop}
+use Rattle.std.proofs.lemmas.List.{drop_more, length-append, take-append-drop}
 use Rattle.std.proofs.lemmas.List.Elements.{All-append}
 use Rattle.application_types.specs.Statements.{IsWithin}
 use Rattle.abstract_monitor.specs.declared.command.Command.{Command}
@@ -12,13 +12,13 @@ use Rattle.laws_of_states.specs.Keeping.{HasFacts}
 use Rattle.monitor_core.specs.CoreValue.{CoreValue}
 use Rattle.lab_walks.specs.declared.frame.Frame.{Frame}
 use Rattle.lab_orders.specs.Finding.{AreTried, IsSame}
-use Rattle.lab_walks.specs.Frames.{IsAhead, IsLeft, others}
+use Rattle.lab_walks.specs.Frames.{IsAhead, IsFrame, IsLeft, IsWay, others, turn_in, turns_in}
+use Rattle.lab_walks.specs.FramesLaws.{first_or_later}
 use Rattle.lab_walks.specs.Lists.{AreOnce}
 use Rattle.lab_walks.specs.Orders.{IsAtRest, IsTurn, has_effect, is_in}
-use Rattle.lab_walks.specs.Frames.{IsFrame, IsWay, turn_in, turns_in}
 use Rattle.lab_orders.specs.Trying.{TriedEffect}
 use Rattle.lab_walks.specs.Walks.{AtEnd, CanBe, InRun, IsEnd, IsWalk, Spot, idle_count, idle_from, stand}
-use Rattle.lab_walks.specs.ListsLaws.{each_more, head_of, not_none, tail_of}
+use Rattle.lab_walks.specs.ListsLaws.{head_of, not_none, tail_of}
 
 -- ---- lists of turns
 

@@ -1,6 +1,5 @@
 -- What the code of a search finds.
-use Rattle.std.specs.Prelude.{◌≡◌, ◌≤◌, ◌^◌, ℕ, Bool, true, false, IsTrue, All, List, [], ◌∷◌, sum_by}
-use Rattle.std.specs.Prelude.{◌⊎◌, ◌+◌, drop}
+use Rattle.std.specs.Prelude.{◌≡◌, ◌≤◌, ◌^◌, ℕ, IsTrue, All, List, sum_by}
 use Rattle.application_types.specs.Generation.{Generated}
 use Rattle.kdcs_types.specs.Tables.{TableRows}
 use Rattle.application_types.specs.Fitted.{FittedUnits, IsFit}
@@ -17,7 +16,7 @@ use Rattle.lab_orders.specs.declared.search.Seen.{Seen}
 use Rattle.lab_orders.specs.declared.search.Seen.TheVariants as seen
 use Rattle.lab_walks.specs.Lists.{AreOnce}
 use Rattle.lab_walks.specs.Orders.{HasOutcome, IsTurn, is_in}
-use Rattle.lab_walks.specs.Frames.{IsFrame, IsWay, turn_in, turns_in}
+use Rattle.lab_walks.specs.Frames.{IsAhead, IsFrame, IsWay, turns_in}
 use Rattle.lab_orders.specs.Walking.{tries_of}
 use Rattle.lab_walks.specs.Walks.{IsEnd, IsWalk, idle_count, stand}
 

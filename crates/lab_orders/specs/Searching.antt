@@ -1,5 +1,5 @@
 -- What the code of a search comes to along the turns of a walk.
-use Rattle.std.specs.Prelude.{◌≡◌, ◌*◌, ◌+◌, ◌<◌, ◌≤◌, ◌^◌, ℕ, IsTrue, All, List, ◌∷◌, ◌++◌, get_or, length, map, Option, Some, None, sum_by}
+use Rattle.std.specs.Prelude.{◌≡◌, ◌*◌, ◌+◌, ◌<◌, ◌≤◌, ◌^◌, ℕ, List, ◌∷◌, ◌++◌, length, Option, Some, None, sum_by}
 use Rattle.kdcs_types.specs.Tables.{TableRows}
 use Rattle.abstract_monitor.specs.declared.command.Command.{Command}
 use Rattle.abstract_monitor.specs.Bytes.{Bytes}
@@ -13,11 +13,10 @@ use Rattle.lab_walks.specs.declared.frame.Frame.{Frame}
 use Rattle.lab_orders.specs.declared.path.Path.{Path}
 use Rattle.lab_orders.specs.declared.reach.Place.{Place}
 use Rattle.lab_orders.specs.declared.reach.Place.TheVariants.{Inside, Ended}
-use Rattle.lab_walks.specs.Orders.{is_in, order_steps, turned_run, turned_script}
-use Rattle.lab_walks.specs.Lists.{AreOnce}
+use Rattle.lab_walks.specs.Orders.{order_steps, turned_run, turned_script}
 use Rattle.lab_walks.specs.Frames.{IsWay, turn_in, turns_in}
 use Rattle.lab_orders.specs.Walking.{IsBeside, tries_of}
-use Rattle.lab_walks.specs.Walks.{CanBe, Spot, InRun, AtEnd, idle_count, stand, stand_run}
+use Rattle.lab_walks.specs.Walks.{Spot, InRun, AtEnd, stand, stand_run}
 
 -- turns of a script from a state
 pub record Quest : Type 0 where
