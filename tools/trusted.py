@@ -66,7 +66,8 @@ PARTS = (
         ("script_read", "Commands Script"),
     )),
     ("Updates", "which rows stay, and why a file is refused", (
-        ("kdcfile_update", "Updating Carrying Judging Report"),
+        ("kdcfile_update", "Updating Report"),
+        ("kd_update", "Carrying Judging"),
     )),
     ("Trails", "what `trail` prints and `audit` asks", (
         ("trail_run", "Entries OwnTrails OwnAudits InTurn"),

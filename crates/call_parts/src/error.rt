@@ -6,9 +6,9 @@ ghost use Rattle.call_parts.specs.declared.error.CallError.TheVariants as errors
 use device_acts::warm_start::OpenError;
 use kd_base::OutOfMemory;
 use kd_device::DeviceError;
+use kd_update::UpdateError;
 use kdcfile_double::TwinOpenError;
 use kdcfile_update::CarryError;
-use kdcfile_update::kd_update::UpdateError;
 use refusals::FileRefusal;
 use thiserror::Error;
 

@@ -1,14 +1,6 @@
-pub mod CarriedLaws
-pub mod Carrying
-pub mod CarryingLaws
 pub mod Causes
-pub mod ChargingLaws
-pub mod Judging
 pub mod Laws
 pub mod Parts
-pub mod ProperLaws
 pub mod Report
-pub mod SettingLaws
-pub mod SuitingLaws
 pub mod Updating
 pub mod UpdatingLaws

@@ -2,7 +2,7 @@
 //! judged, and in one commit the file is made with the new fingerprint and page pool and keeps the new tables; then a
 //! report says what went.
 //!
-//! What becomes of tables is said by `kd_update`. It stands on device_acts, whose warm_start opens a file of any texts,
+//! It stands on kd_update, which says what becomes of tables, on device_acts, whose warm_start opens a file of any texts,
 //! on kdcfile_store and on table_fit. To the program, its definitions say which files are taken and which are refused
 //! and why. Its contract says that a stop leaves the old tables, as they were made, with nothing sent, or the new ones
 //! with a front of the report; that after `Ok` the new ones stand and the whole report was sent; that a file that is up
@@ -11,7 +11,6 @@
 
 mod carrying;
 mod error;
-pub mod kd_update;
 mod laws;
 mod report;
 mod sending;

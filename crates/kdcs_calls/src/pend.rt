@@ -8,7 +8,7 @@ use abstract_monitor::{Called, Denial};
 use application_types::generation::Generation;
 use application_types::kdcdef_types::TacEntry;
 use kd_base::{Bytes, Name, Variant};
-use monitor_parts::access_rules::decide;
+use monitor_rules::decide;
 use open_transaction::OpenTransaction;
 use service_parts::pend_rules::outcome;
 

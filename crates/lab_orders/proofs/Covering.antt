@@ -9,16 +9,17 @@ use Rattle.abstract_monitor.specs.State.{Application}
 use Rattle.laws_of_states.specs.ItemsLaws.{IsIn}
 use Rattle.lab_orders.specs.declared.explored.Explored.{Explored}
 use Rattle.lab_orders.specs.declared.explored.Outcome.{Outcome}
-use Rattle.lab_orders.specs.declared.frame.Frame.{Frame}
+use Rattle.lab_walks.specs.declared.frame.Frame.{Frame}
 use Rattle.lab_orders.specs.declared.search.Found.{Found}
 use Rattle.lab_orders.specs.Exploring.{AreAll, AreOrdered, AreOutcomes, IsAdded, IsDrawn, IsOfAllWalks, IsShown, IsTally, IsTried}
-use Rattle.lab_orders.specs.Finding.{Advanced, Descended, IsAhead, IsFound, IsLeft}
+use Rattle.lab_orders.specs.Finding.{Descended, IsFound}
+use Rattle.lab_walks.specs.Frames.{Advanced, IsAhead, IsLeft}
 use Rattle.lab_orders.specs.Laws.{OrdersAreWalked, Starts, WalksAreOrders}
-use Rattle.lab_orders.specs.Lists.{AreOnce}
-use Rattle.lab_orders.specs.Orders.{worked}
-use Rattle.lab_orders.specs.Searching.{IsWay}
+use Rattle.lab_walks.specs.Lists.{AreOnce}
+use Rattle.lab_walks.specs.Orders.{worked}
+use Rattle.lab_walks.specs.Frames.{IsWay}
 use Rattle.lab_orders.specs.Told.{AreMore}
-use Rattle.lab_orders.specs.Walks.{IsWalk}
+use Rattle.lab_walks.specs.Walks.{IsWalk}
 use Rattle.lab_orders.proofs.Exploring.{tally_more, tally_start}
 use Rattle.lab_orders.proofs.Searching.{ahead_end, left_ahead, turns_ahead, turns_not_left, way_none, way_open}
 

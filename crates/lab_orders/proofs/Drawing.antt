@@ -23,12 +23,12 @@ use Rattle.monitor_core.specs.Keeping.{AreKept}
 use Rattle.service_ends.specs.declared.turned.Turned.{Turned as Did}
 use Rattle.lab_orders.specs.declared.path.Path.{Path}
 use Rattle.lab_orders.specs.Drawing.{CameIntoRun, CameToCommands, Drew, IsAwake, Script, Tells}
-use Rattle.lab_orders.specs.Orders.{HasOutcome, IsAtRest, IsTurn, has_effect, order_steps, turned_script}
+use Rattle.lab_walks.specs.Orders.{HasOutcome, IsAtRest, IsTurn, has_effect, order_steps, turned_script}
 use Rattle.lab_orders.specs.Trying.{Tried}
 use Rattle.lab_orders.specs.Walking.{DidCommand, IsBeside, IsNoRun, tries_of}
-use Rattle.lab_orders.specs.Walks.{CanBe, InRun, IsEnd, IsWalk, Spot, idle_count, idle_from, stand}
+use Rattle.lab_walks.specs.Walks.{CanBe, InRun, IsEnd, IsWalk, Spot, idle_count, idle_from, stand}
 use Rattle.lab_orders.proofs.Commands.{acts_are_kept, durable_after, name_here, tries_here}
-use Rattle.lab_orders.proofs.Lists.{each_more, not_none}
+use Rattle.lab_walks.specs.ListsLaws.{each_more, not_none}
 use Rattle.lab_orders.proofs.Steps.{acts_both, after_both, after_one, bytes_both, command_steps, moved, no_acts_after, no_steps, over_steps, rest_steps, run_steps, stand_begins, stand_behind, stand_ends, stand_none, stand_over, stand_rest, stand_turn, turn_steps}
 
 -- ---- tasks that rest

@@ -29,7 +29,7 @@ use Rattle.abstract_monitor.specs.Endings.{durable, refusal, synchronised}
 use Rattle.abstract_monitor.specs.Turns.{Turned, abnormal, back, back_by, happens, last_again, served, settled, settled_by, statement_now, took, took_job, took_job_for, turn_by, turn_of, unmoved, waiting_for}
 use Rattle.abstract_monitor.specs.Turns.{without_transaction}
 use Rattle.monitor_core.specs.LockingLaws.{put_same}
-use Rattle.lab_orders.specs.Orders.{has_effect, same_wait, wait_by, wait_in}
+use Rattle.lab_walks.specs.Orders.{has_effect, same_wait, wait_by, wait_in}
 
 pub found_put : {X : Type 0} (id : ServiceId) (x : X) (es : List (ServiceId × X)) → find id_cmp id (put id_cmp id x es) ≡ Some x
 found_put id x es = find-put id_cmp id_total id id x es ∙ ap (λ b. cond b (Some x) (find id_cmp id es)) (id_eq_itself id)

@@ -11,9 +11,9 @@ use Rattle.lab_orders.specs.declared.explored.Outcome.{Outcome}
 use Rattle.lab_orders.specs.declared.search.Found.{Found}
 use Rattle.lab_orders.specs.Exploring.{AreDistinct, AreOutcomes, AreSame, IsAdded, IsCounted, IsFirst, IsOther, IsOutcome, IsShown, IsTally, IsThatOf, IsThere, orders_of, shorter}
 use Rattle.lab_orders.specs.Finding.{IsFound}
-use Rattle.lab_orders.specs.Orders.{HasOutcome}
+use Rattle.lab_walks.specs.Orders.{HasOutcome}
 use Rattle.lab_orders.specs.Told.{turns_of}
-use Rattle.lab_orders.specs.Walks.{IsWalk}
+use Rattle.lab_walks.specs.Walks.{IsWalk}
 use Rattle.lab_orders.proofs.Told.{told_added}
 
 -- one outcome more is among them

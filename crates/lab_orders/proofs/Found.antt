@@ -12,7 +12,7 @@ use Rattle.abstract_monitor.specs.Commands.{started}
 use Rattle.abstract_monitor.specs.Listing.{listing}
 use Rattle.abstract_monitor.specs.State.{Application, State}
 use Rattle.monitor_core.specs.CoreValue.{CoreValue}
-use Rattle.lab_orders.specs.declared.frame.Frame.{Frame}
+use Rattle.lab_walks.specs.declared.frame.Frame.{Frame}
 use Rattle.lab_orders.specs.declared.path.Path.{Path}
 use Rattle.lab_orders.specs.declared.reach.Place.{Place}
 use Rattle.lab_orders.specs.declared.reach.Place.TheVariants.{Inside, Ended}
@@ -20,14 +20,17 @@ use Rattle.lab_orders.specs.declared.search.Found.{Found}
 use Rattle.lab_orders.specs.declared.search.Seen.{Seen}
 use Rattle.lab_orders.specs.declared.search.Seen.TheVariants as seen
 use Rattle.lab_orders.specs.Drawing.{CameToCommands, Drew}
-use Rattle.lab_orders.specs.Finding.{CanStart, Descended, IsAhead, IsFound, SawIt}
-use Rattle.lab_orders.specs.Orders.{HasOutcome}
-use Rattle.lab_orders.specs.Searching.{CanGo, Followed, GoesOn, IsWay, Reached, quest_of, spot_of, state_at, turns_in}
+use Rattle.lab_orders.specs.Finding.{CanStart, Descended, IsFound, SawIt}
+use Rattle.lab_walks.specs.Frames.{IsAhead}
+use Rattle.lab_walks.specs.Orders.{HasOutcome}
+use Rattle.lab_orders.specs.Searching.{CanGo, Followed, GoesOn, Reached, quest_of, spot_of, state_at}
+use Rattle.lab_walks.specs.Frames.{IsWay, turns_in}
 use Rattle.lab_orders.specs.Walking.{Begun}
-use Rattle.lab_orders.specs.Walks.{IsEnd, IsWalk, stand}
+use Rattle.lab_walks.specs.Walks.{IsEnd, IsWalk, stand}
 use Rattle.lab_orders.proofs.Drawing.{came_start, ended_outcome, ended_walk}
 use Rattle.lab_orders.proofs.Reaching.{goes_start}
-use Rattle.lab_orders.proofs.Searching.{ahead_back, ahead_more, way_more, way_walks}
+use Rattle.lab_orders.proofs.Searching.{ahead_back, ahead_more, way_walks}
+use Rattle.lab_walks.specs.FramesLaws.{way_more}
 use Rattle.lab_orders.proofs.Steps.{moved}
 
 module _ (app : Application) (t : TableRows) (cs : List Command) (c : CoreValue) (before : Path) (begun : Begun app t c before) where

@@ -5,7 +5,6 @@ pub mod Effects
 pub mod Exploring
 pub mod Finding
 pub mod Found
-pub mod Lists
 pub mod Ordered
 pub mod Reaching
 pub mod Rotating

@@ -9,9 +9,9 @@ use Rattle.abstract_monitor.specs.Commands.{command_of}
 use Rattle.abstract_monitor.specs.State.{Application, State}
 use Rattle.abstract_monitor.specs.Turns.{turn_of}
 use Rattle.lab_orders.specs.Laws.{WalksAreOrders}
-use Rattle.lab_orders.specs.Orders.{IsAtRest, IsNext, IsOrder, IsTurn, RunsSo, by_effect, has_effect, is_in, worked, worked_run}
+use Rattle.lab_walks.specs.Orders.{IsAtRest, IsNext, IsOrder, IsTurn, RunsSo, by_effect, has_effect, is_in, worked, worked_run}
 use Rattle.lab_orders.specs.Walking.{IsNoRun}
-use Rattle.lab_orders.specs.Walks.{CanBe, InRun, IsEnd, Spot, idle_count, idle_from, stand, stand_run}
+use Rattle.lab_walks.specs.Walks.{CanBe, InRun, IsEnd, Spot, idle_count, idle_from, stand, stand_run}
 use Rattle.lab_orders.proofs.Steps.{stand_begins, stand_behind, stand_ends, stand_none, stand_over, stand_rest, stand_turn}
 use Rattle.lab_orders.proofs.Working.{worked_begins, worked_behind, worked_over, worked_rest, worked_spent}
 use Rattle.lab_orders.proofs.Worked.{IsWalkFrom, walk_same}

@@ -13,14 +13,15 @@ use Rattle.abstract_monitor.specs.Trace.{bytes_of, history}
 use Rattle.abstract_monitor.specs.Turns.{turn_of}
 use Rattle.laws_of_states.specs.Keeping.{IsScriptOf}
 use Rattle.monitor_core.specs.CoreValue.{CoreValue}
-use Rattle.lab_orders.specs.declared.frame.Frame.{Frame}
+use Rattle.lab_walks.specs.declared.frame.Frame.{Frame}
 use Rattle.lab_orders.specs.declared.path.Path.{Path}
 use Rattle.lab_orders.specs.declared.reach.Place.{Place}
 use Rattle.lab_orders.specs.declared.reach.Place.TheVariants.{Inside, Ended}
-use Rattle.lab_orders.specs.Orders.{order_steps, turned_run, turned_script}
-use Rattle.lab_orders.specs.Searching.{Followed, GoesInRun, GoesOn, IsFrame, IsTaken, IsWay, Opens, Quest, Reached, WentCommand, WentOrEnds, WentRun, place_of, turn_in, turns_in}
+use Rattle.lab_walks.specs.Orders.{order_steps, turned_run, turned_script}
+use Rattle.lab_orders.specs.Searching.{Followed, GoesInRun, GoesOn, IsTaken, Quest, Reached, WentCommand, WentOrEnds, WentRun, place_of}
+use Rattle.lab_walks.specs.Frames.{IsFrame, IsWay, Opens, turn_in, turns_in}
 use Rattle.lab_orders.specs.Walking.{DidCommand, IsBeside, IsNoRun, tries_of}
-use Rattle.lab_orders.specs.Walks.{AtEnd, CanBe, InRun, Spot, idle_count, stand}
+use Rattle.lab_walks.specs.Walks.{AtEnd, CanBe, InRun, Spot, idle_count, stand}
 use Rattle.lab_orders.proofs.Commands.{name_here, tries_here, here_and_behind}
 use Rattle.lab_orders.proofs.Steps.{after_one, bytes_both, command_steps, moved, no_acts_after, no_steps, over_steps, rest_steps, run_steps, stand_begins, stand_behind, stand_ends, stand_none, stand_over, stand_rest, stand_turn, turn_steps}
 

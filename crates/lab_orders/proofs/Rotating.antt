@@ -32,7 +32,7 @@ use Rattle.laws_of_runs.specs.HistoryLaws.{rotated_ended}
 use Rattle.laws_of_states.specs.Applications.{IsApplication}
 use Rattle.laws_of_states.specs.Keeping.{HasFacts, IsScriptOf, Leads}
 use Rattle.lab_orders.specs.Laws.{RotationsAreOrders}
-use Rattle.lab_orders.specs.Orders.{IsAtRest, IsNext, IsOrder, RunsSo, by_effect, has_effect, is_in, order_steps, same_wait, turned_run, turned_script, wait_by, wait_in}
+use Rattle.lab_walks.specs.Orders.{IsAtRest, IsNext, IsOrder, RunsSo, by_effect, has_effect, is_in, order_steps, same_wait, turned_run, turned_script, wait_by, wait_in}
 use Rattle.lab_orders.specs.Walking.{IsNoRun}
 use Rattle.lab_orders.proofs.Effects.{found_put, happens_only, happens_waits, no_effect_no_change, took_still}
 use Rattle.lab_orders.proofs.Ordered.{order_begins, order_behind}

@@ -3,7 +3,7 @@ use Rattle.std.proofs.Common.{◌≡◌, ℕ, zero, suc, ◌+◌, ◌-◌, ◌<�
 use Rattle.std.proofs.lemmas.List.{append-nil, drop_all}
 use Rattle.abstract_monitor.specs.declared.command.Command.{Command}
 use Rattle.abstract_monitor.specs.declared.command.Command.TheVariants.{Input, Tick, Run, Turn, Drop, Print, PrintLast, Restart}
-use Rattle.lab_orders.specs.Orders.{turned_run, turned_script}
+use Rattle.lab_walks.specs.Orders.{turned_run, turned_script}
 use Rattle.lab_orders.specs.Walking.{IsNoRun}
 
 -- ---- a RUN

@@ -1,8 +1,8 @@
 -- What can be next, and the walks one after another.
-use Rattle.std.proofs.Common.{◌≡◌, ℕ, zero, suc, ◌+◌, ◌-◌, ◌<◌, ◌≤◌, List, [], ◌∷◌, ◌++◌, inl, inr, refl, sym, ap, subst, ◌∙◌, append_assoc, arith, get_or, drop, take, length}
+use Rattle.std.proofs.Common.{◌≡◌, ℕ, zero, suc, ◌+◌, ◌-◌, ◌<◌, ◌≤◌, List, [], ◌∷◌, ◌++◌, inl, inr, refl, sym, ap, subst, ◌∙◌, arith, get_or, drop, take, length}
 use Rattle.std.specs.Prelude.{◌⊎◌, Bool, true, false, not, ◌||◌, ◌==◌, IsTrue, All, cond}
 use Rattle.std.proofs.lemmas.Bool.{eq-eqb, eqb-true, true≢false}
-use Rattle.std.proofs.lemmas.List.{drop_all, drop_more, length-append, take-append-drop}
+use Rattle.std.proofs.lemmas.List.{drop_more, length-append, take-append-drop}
 use Rattle.std.proofs.lemmas.List.Elements.{All-append}
 use Rattle.application_types.specs.Statements.{IsWithin}
 use Rattle.abstract_monitor.specs.declared.command.Command.{Command}
@@ -10,14 +10,15 @@ use Rattle.abstract_monitor.specs.State.{Application, State}
 use Rattle.laws_of_states.specs.ItemsLaws.{IsIn}
 use Rattle.laws_of_states.specs.Keeping.{HasFacts}
 use Rattle.monitor_core.specs.CoreValue.{CoreValue}
-use Rattle.lab_orders.specs.declared.frame.Frame.{Frame}
-use Rattle.lab_orders.specs.Finding.{AreTried, IsAhead, IsLeft, IsSame, others}
-use Rattle.lab_orders.specs.Lists.{AreOnce}
-use Rattle.lab_orders.specs.Orders.{IsAtRest, IsTurn, has_effect, is_in}
-use Rattle.lab_orders.specs.Searching.{IsFrame, IsWay, turn_in, turns_in}
+use Rattle.lab_walks.specs.declared.frame.Frame.{Frame}
+use Rattle.lab_orders.specs.Finding.{AreTried, IsSame}
+use Rattle.lab_walks.specs.Frames.{IsAhead, IsFrame, IsLeft, IsWay, others, turn_in, turns_in}
+use Rattle.lab_walks.specs.FramesLaws.{first_or_later}
+use Rattle.lab_walks.specs.Lists.{AreOnce}
+use Rattle.lab_walks.specs.Orders.{IsAtRest, IsTurn, has_effect, is_in}
 use Rattle.lab_orders.specs.Trying.{TriedEffect}
-use Rattle.lab_orders.specs.Walks.{AtEnd, CanBe, InRun, IsEnd, IsWalk, Spot, idle_count, idle_from, stand}
-use Rattle.lab_orders.proofs.Lists.{each_more, head_of, not_none, tail_of}
+use Rattle.lab_walks.specs.Walks.{AtEnd, CanBe, InRun, IsEnd, IsWalk, Spot, idle_count, idle_from, stand}
+use Rattle.lab_walks.specs.ListsLaws.{head_of, not_none, tail_of}
 
 -- ---- lists of turns
 
@@ -72,26 +73,9 @@ not_behind (x ∷ xs) (suc at) lt once h =
     let more : suc at + 1 ≡ suc (at + 1) = omega arith in
     not_behind xs at (omega (arith, lt)) once.1 (subst (λ n. IsTrue (is_in (get_or xs at 0) (drop n (x ∷ xs)))) more h)
 
--- the first or a later one
-pub from_here : (t : ℕ) (xs : List ℕ) (at : ℕ) → at < length xs → (t ≡ get_or xs at 0) ⊎ IsTrue (is_in t (drop (at + 1) xs)) → IsTrue (is_in t (drop at xs))
-from_here t xs at lt h = subst (λ (l : List ℕ). IsTrue (is_in t l)) (sym (drop_more xs at 0 lt)) (by (get_or xs at 0 == t) refl h)
-  where
-    by : (b : Bool) → (get_or xs at 0 == t) ≡ b → (t ≡ get_or xs at 0) ⊎ IsTrue (is_in t (drop (at + 1) xs)) → IsTrue (b || is_in t (drop (at + 1) xs))
-    by true e h = refl
-    by false e (inl same) = absurd (true≢false (sym (eq-eqb (get_or xs at 0) t (sym same)) ∙ e))
-    by false e (inr later) = later
-
 all_one : (P : ℕ → Type 0) (t : ℕ) → P t → All P (t ∷ [])
 all_one P t h zero d less = h
 all_one P t h (suc k) d less = absurd (omega (arith, less))
-
--- it is the first or a later one
-pub first_or_later : (t : ℕ) (xs : List ℕ) (at : ℕ) → at < length xs → IsTrue (is_in t (drop at xs)) → (t ≡ get_or xs at 0) ⊎ IsTrue (is_in t (drop (at + 1) xs))
-first_or_later t xs at lt h = by (get_or xs at 0 == t) refl (subst (λ (l : List ℕ). IsTrue (is_in t l)) (drop_more xs at 0 lt) h)
-  where
-    by : (b : Bool) → (get_or xs at 0 == t) ≡ b → IsTrue (b || is_in t (drop (at + 1) xs)) → (t ≡ get_or xs at 0) ⊎ IsTrue (is_in t (drop (at + 1) xs))
-    by true e h = inl (sym (eqb-true (get_or xs at 0) t e))
-    by false e h = inr h
 
 -- ---- each task is tried
 
@@ -263,15 +247,6 @@ module _ (app : Application) (cs : List Command) (s : State) where
   pub way_none : (frames : List Frame) → frames ≡ [] → IsWay app cs s frames
   way_none frames none before f behind e = absurd (not_none before f behind (sym none ∙ e))
 
-  pub way_more : (frames : List Frame) (last : Frame) → IsWay app cs s frames → IsFrame app (stand app cs s (turns_in frames)) last → IsWay app cs s (frames ++ last ∷ [])
-  way_more frames last way here = each_more (λ (before : List Frame) (f : Frame). IsFrame app (stand app cs s (turns_in before)) f) frames last way here
-
-  pub way_less : (frames : List Frame) (last : Frame) → IsWay app cs s (frames ++ last ∷ []) → IsWay app cs s frames
-  way_less frames last way before f behind e = way before f (behind ++ last ∷ []) (ap (λ (l : List Frame). l ++ last ∷ []) e ∙ append_assoc before (f ∷ behind) (last ∷ []))
-
-  pub way_last : (frames : List Frame) (last : Frame) → IsWay app cs s (frames ++ last ∷ []) → IsFrame app (stand app cs s (turns_in frames)) last
-  way_last frames last way = way frames last [] refl
-
   -- the whole turns of a way that leads to an end are a walk
   frames_split : (frames : List Frame) (before : List ℕ) (t : ℕ) (behind : List ℕ) → turns_in frames ≡ before ++ t ∷ behind
       → (b : List Frame) × (f : Frame) × (l : List Frame) × (frames ≡ b ++ f ∷ l) × (turns_in b ≡ before) × (turn_in f ≡ t)
@@ -387,60 +362,3 @@ ahead_end app cs s frames end w walk ahead = by frames w (λ t behind e. closed 
     by (f ∷ frames) (t ∷ w) none (inr other) = inr (inr other)
     by (f ∷ frames) (t ∷ w) none (inl both) =
         elim (by frames w (λ u behind e. none u behind (λ i. both.0 i ∷ e i)) both.1) [ inl same ↦ inl (λ i. both.0 i ∷ same i) | inr left ↦ inr (inl (both.0, left)) ]
-
--- ---- the next choice
-
--- the frame with its next choice
-abbrev pub NextFrame : Frame → Frame → Type 0
-NextFrame old new = (new.choices ≡ old.choices) × (new.at ≡ old.at + 1) × (new.idle ≡ old.idle)
-
-pub left_next : (frames : List Frame) (old new : Frame) → NextFrame old new → old.at + 1 < length old.choices → (w : List ℕ) → IsLeft (frames ++ old ∷ []) w → IsAhead (frames ++ new ∷ []) w
-left_next [] old new is lt [] h = absurd h
-left_next [] old new is lt (t ∷ w) (inl both) = absurd both.1
-left_next [] old new is lt (t ∷ w) (inr other) =
-    elim (first_or_later t old.choices (old.at + 1) lt other) [
-      | inl same ↦ inl (same ∙ (λ i. get_or (sym is.0 i) (sym is.1 i) 0), tt)
-      | inr later ↦ inr (subst (λ (l : List ℕ). IsTrue (is_in t l)) (λ i. drop (sym is.1 i + 1) (sym is.0 i)) later)
-    ]
-left_next (f ∷ frames) old new is lt [] h = absurd h
-left_next (f ∷ frames) old new is lt (t ∷ w) (inl both) = inl (both.0, left_next frames old new is lt w both.1)
-left_next (f ∷ frames) old new is lt (t ∷ w) (inr other) = inr other
-
-pub next_left : (frames : List Frame) (old new : Frame) → NextFrame old new → old.at + 1 < length old.choices → (w : List ℕ) → IsAhead (frames ++ new ∷ []) w → IsLeft (frames ++ old ∷ []) w
-next_left [] old new is lt [] h = absurd h
-next_left [] old new is lt (t ∷ w) h = inr (from_here t old.choices (old.at + 1) lt (by h))
-  where
-    by : ((t ≡ turn_in new) × IsAhead [] w) ⊎ IsTrue (is_in t (others new)) → (t ≡ get_or old.choices (old.at + 1) 0) ⊎ IsTrue (is_in t (drop (old.at + 1 + 1) old.choices))
-    by (inl both) = inl (both.0 ∙ (λ i. get_or (is.0 i) (is.1 i) 0))
-    by (inr other) = inr (subst (λ (l : List ℕ). IsTrue (is_in t l)) (λ i. drop (is.1 i + 1) (is.0 i)) other)
-next_left (f ∷ frames) old new is lt [] h = absurd h
-next_left (f ∷ frames) old new is lt (t ∷ w) (inl both) = inl (both.0, next_left frames old new is lt w both.1)
-next_left (f ∷ frames) old new is lt (t ∷ w) (inr other) = inr other
-
-pub left_longer : (frames : List Frame) (last : Frame) (w : List ℕ) → IsLeft frames w → IsLeft (frames ++ last ∷ []) w
-left_longer [] last w h = absurd h
-left_longer (f ∷ frames) last [] h = absurd h
-left_longer (f ∷ frames) last (t ∷ w) (inl both) = inl (both.0, left_longer frames last w both.1)
-left_longer (f ∷ frames) last (t ∷ w) (inr other) = inr other
-
--- the last frame has no other choice
-pub left_less : (frames : List Frame) (last : Frame) → length last.choices ≤ last.at + 1 → (w : List ℕ) → IsLeft (frames ++ last ∷ []) w → IsLeft frames w
-left_less [] last over [] h = absurd h
-left_less [] last over (t ∷ w) (inl both) = absurd both.1
-left_less [] last over (t ∷ w) (inr other) = absurd (true≢false (sym (subst (λ (l : List ℕ). IsTrue (is_in t l)) (drop_all (last.at + 1) last.choices over) other)))
-left_less (f ∷ frames) last over [] h = absurd h
-left_less (f ∷ frames) last over (t ∷ w) (inl both) = inl (both.0, left_less frames last over w both.1)
-left_less (f ∷ frames) last over (t ∷ w) (inr other) = inr other
-
-next_frame : (app : Application) (p : Spot) (old new : Frame) → NextFrame old new → old.at + 1 < length old.choices → IsFrame app p old → IsFrame app p new
-next_frame app (AtEnd u) old new is lt h = absurd h
-next_frame app (InRun left room u) old new is lt h = record {
-  idle = is.2 ∙ h.idle;
-  can = subst (All (CanBe app (InRun left room u))) (sym is.0) h.can;
-  whole = λ t can. subst (λ (l : List ℕ). IsTrue (is_in t l)) (sym is.0) (h.whole t can);
-  once = subst AreOnce (sym is.0) h.once;
-  at = subst (λ (l : List ℕ). new.at < length l) (sym is.0) (omega (arith, is.1, lt));
-}
-
-pub way_next : (app : Application) (cs : List Command) (s : State) (frames : List Frame) (old new : Frame) → NextFrame old new → old.at + 1 < length old.choices → IsWay app cs s (frames ++ old ∷ []) → IsWay app cs s (frames ++ new ∷ [])
-way_next app cs s frames old new is lt way = way_more app cs s frames new (way_less app cs s frames old way) (next_frame app (stand app cs s (turns_in frames)) old new is lt (way_last app cs s frames old way))

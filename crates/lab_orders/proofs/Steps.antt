@@ -9,9 +9,9 @@ use Rattle.abstract_monitor.specs.Commands.{ScriptStep, acts_of, command_of, sta
 use Rattle.abstract_monitor.specs.State.{Application, State}
 use Rattle.abstract_monitor.specs.Trace.{bytes_of, history}
 use Rattle.abstract_monitor.specs.Turns.{turn_of}
-use Rattle.lab_orders.specs.Orders.{order_steps, turned_run, turned_script}
+use Rattle.lab_walks.specs.Orders.{order_steps, turned_run, turned_script}
 use Rattle.lab_orders.specs.Walking.{IsNoRun}
-use Rattle.lab_orders.specs.Walks.{AtEnd, InRun, Spot, idle_count, stand, stand_run}
+use Rattle.lab_walks.specs.Walks.{AtEnd, InRun, Spot, idle_count, stand, stand_run}
 
 pub bytes_both : (xs ys : List Act) → bytes_of (xs ++ ys) ≡ bytes_of xs ++ bytes_of ys
 unfolding bytes_of

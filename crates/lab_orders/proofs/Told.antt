@@ -15,7 +15,7 @@ use Rattle.laws_of_states.specs.ItemsLaws.{IsIn}
 use Rattle.lab_orders.specs.declared.explored.Outcome.{Outcome}
 use Rattle.lab_orders.specs.declared.search.Found.{Found}
 use Rattle.lab_orders.specs.Exploring.{AreDistinct, IsAdded, IsCounted, IsFirst, IsOther, IsShown, IsThatOf, shorter}
-use Rattle.lab_orders.specs.Orders.{HasOutcome, order_steps}
+use Rattle.lab_walks.specs.Orders.{HasOutcome, order_steps}
 use Rattle.lab_orders.specs.Told.{AreTold, IsOneOf, IsTold, comes_to, turns_of}
 
 abbrev one_if : Bool → ℕ

@@ -8,7 +8,7 @@ use Rattle.laws_of_states.specs.Keeping.{HasFacts}
 use Rattle.monitor_core.specs.CoreValue.{CoreValue, OneStep}
 use Rattle.service_ends.specs.declared.turned.Turned.{Turned as Did}
 use Rattle.service_ends.specs.Ending.{turned_to}
-use Rattle.lab_orders.specs.Orders.{has_effect, same_wait, wait_in}
+use Rattle.lab_walks.specs.Orders.{has_effect, same_wait, wait_in}
 use Rattle.lab_orders.specs.Trying.{Tried, TriedEffect}
 use Rattle.lab_orders.proofs.Effects.{no_effect_no_change}
 

@@ -15,11 +15,11 @@ use Rattle.abstract_monitor.specs.Turns.{turn_of}
 use Rattle.laws_of_states.specs.Applications.{IsApplication}
 use Rattle.laws_of_states.specs.Keeping.{HasFacts, IsScriptOf, Leads}
 use Rattle.lab_orders.specs.Laws.{OrdersAreWalked}
-use Rattle.lab_orders.specs.Orders.{IsNext, IsOrder, RunsSo, by_effect, has_effect, is_in, order_steps, turned_run, turned_script, worked, worked_run}
+use Rattle.lab_walks.specs.Orders.{IsNext, IsOrder, RunsSo, by_effect, has_effect, is_in, order_steps, turned_run, turned_script, worked, worked_run}
 use Rattle.lab_orders.specs.Walking.{IsNoRun}
-use Rattle.lab_orders.specs.Walks.{CanBe, InRun, IsEnd, Spot, idle_count, idle_from, stand, stand_run}
+use Rattle.lab_walks.specs.Walks.{CanBe, InRun, IsEnd, Spot, idle_count, idle_from, stand, stand_run}
 use Rattle.lab_orders.proofs.Effects.{no_effect_no_acts, no_effect_no_change}
-use Rattle.lab_orders.proofs.Lists.{head_of, not_none, tail_of}
+use Rattle.lab_walks.specs.ListsLaws.{head_of, not_none, tail_of}
 use Rattle.lab_orders.proofs.Working.{worked_begins, worked_behind, worked_over, worked_rest, worked_spent}
 use Rattle.lab_orders.proofs.Steps.{after_one, bytes_both, command_steps, no_steps, over_steps, rest_steps, run_steps, stand_begins, stand_behind, stand_ends, stand_none, stand_over, stand_rest, stand_turn, turn_steps}
 

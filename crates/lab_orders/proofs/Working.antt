@@ -4,7 +4,7 @@ use Rattle.abstract_monitor.specs.declared.command.Command.{Command}
 use Rattle.abstract_monitor.specs.declared.command.Command.TheVariants.{Input, Tick, Run, Turn, Drop, Print, PrintLast, Restart}
 use Rattle.abstract_monitor.specs.Commands.{command_of}
 use Rattle.abstract_monitor.specs.State.{Application, State}
-use Rattle.lab_orders.specs.Orders.{worked, worked_run}
+use Rattle.lab_walks.specs.Orders.{worked, worked_run}
 use Rattle.lab_orders.specs.Walking.{IsNoRun}
 
 module _ (app : Application) (cs : List Command) where

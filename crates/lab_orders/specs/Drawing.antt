@@ -7,9 +7,9 @@ use Rattle.abstract_monitor.specs.State.{Application, State}
 use Rattle.abstract_monitor.specs.Trace.{bytes_of, history}
 use Rattle.monitor_core.specs.CoreValue.{CoreValue}
 use Rattle.lab_orders.specs.declared.path.Path.{Path}
-use Rattle.lab_orders.specs.Orders.{order_steps, turned_run, turned_script}
+use Rattle.lab_walks.specs.Orders.{order_steps, turned_run, turned_script}
 use Rattle.lab_orders.specs.Walking.{IsBeside}
-use Rattle.lab_orders.specs.Walks.{CanBe, Spot, stand, stand_run}
+use Rattle.lab_walks.specs.Walks.{CanBe, Spot, stand, stand_run}
 
 -- the task does not rest
 pub record IsAwake (resting : List Bool) (task : ℕ) : Type 0 where

@@ -9,10 +9,10 @@ use Rattle.lab_orders.specs.declared.explored.Explored.{Explored}
 use Rattle.lab_orders.specs.declared.explored.Outcome.{Outcome}
 use Rattle.lab_orders.specs.declared.search.Found.{Found}
 use Rattle.lab_orders.specs.Laws.{IsOrdered}
-use Rattle.lab_orders.specs.Lists.{AreOnce}
-use Rattle.lab_orders.specs.Orders.{HasOutcome, IsOrder}
+use Rattle.lab_walks.specs.Lists.{AreOnce}
+use Rattle.lab_walks.specs.Orders.{HasOutcome, IsOrder}
 use Rattle.lab_orders.specs.Told.{AreMore, AreTold, AreWalks, turns_of}
-use Rattle.lab_orders.specs.Walks.{IsWalk}
+use Rattle.lab_walks.specs.Walks.{IsWalk}
 
 -- the outcome of a walk, which it shows
 pub record IsOutcome (app : Application) (t : TableRows) (commands : List Command) (outcome : Outcome) : Type 0 where

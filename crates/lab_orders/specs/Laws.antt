@@ -9,8 +9,8 @@ use Rattle.abstract_monitor.specs.Trace.{history}
 use Rattle.laws_of_states.specs.Applications.{IsApplication}
 use Rattle.laws_of_states.specs.Keeping.{IsScriptOf}
 use Rattle.laws_of_states.specs.Suits.{Suits}
-use Rattle.lab_orders.specs.Orders.{HasOutcome, IsOrder, order_steps, worked}
-use Rattle.lab_orders.specs.Walks.{IsWalk}
+use Rattle.lab_walks.specs.Orders.{HasOutcome, IsOrder, order_steps, worked}
+use Rattle.lab_walks.specs.Walks.{IsWalk}
 
 -- tables from which the script can start
 pub record Starts (app : Application) (t : TableRows) (cs : List Command) : Type 0 where

@@ -1,6 +1,3 @@
-pub mod Lists
-pub mod Orders
-pub mod Walks
 pub mod Trying
 pub mod Walking
 pub mod Searching

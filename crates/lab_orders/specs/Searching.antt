@@ -1,5 +1,5 @@
 -- What the code of a search comes to along the turns of a walk.
-use Rattle.std.specs.Prelude.{◌≡◌, ◌*◌, ◌+◌, ◌<◌, ◌≤◌, ◌^◌, ℕ, IsTrue, All, List, ◌∷◌, ◌++◌, get_or, length, map, Option, Some, None, sum_by}
+use Rattle.std.specs.Prelude.{◌≡◌, ◌*◌, ◌+◌, ◌<◌, ◌≤◌, ◌^◌, ℕ, List, ◌∷◌, ◌++◌, length, Option, Some, None, sum_by}
 use Rattle.kdcs_types.specs.Tables.{TableRows}
 use Rattle.abstract_monitor.specs.declared.command.Command.{Command}
 use Rattle.abstract_monitor.specs.Bytes.{Bytes}
@@ -9,37 +9,14 @@ use Rattle.abstract_monitor.specs.Trace.{bytes_of, history}
 use Rattle.laws_of_states.specs.Keeping.{IsScriptOf}
 use Rattle.laws_of_states.specs.Suits.{Suits}
 use Rattle.monitor_core.specs.CoreValue.{CoreValue}
-use Rattle.lab_orders.specs.declared.frame.Frame.{Frame}
+use Rattle.lab_walks.specs.declared.frame.Frame.{Frame}
 use Rattle.lab_orders.specs.declared.path.Path.{Path}
 use Rattle.lab_orders.specs.declared.reach.Place.{Place}
 use Rattle.lab_orders.specs.declared.reach.Place.TheVariants.{Inside, Ended}
-use Rattle.lab_orders.specs.Orders.{is_in, order_steps, turned_run, turned_script}
-use Rattle.lab_orders.specs.Lists.{AreOnce}
+use Rattle.lab_walks.specs.Orders.{order_steps, turned_run, turned_script}
+use Rattle.lab_walks.specs.Frames.{IsWay, turn_in, turns_in}
 use Rattle.lab_orders.specs.Walking.{IsBeside, tries_of}
-use Rattle.lab_orders.specs.Walks.{CanBe, Spot, InRun, AtEnd, idle_count, stand, stand_run}
-
--- the turn that is taken
-abbrev pub turn_in : Frame → ℕ
-turn_in f = get_or f.choices f.at 0
-
-abbrev pub turns_in : List Frame → List ℕ
-turns_in frames = map turn_in frames
-
--- just what can be next in a RUN, and one of it is taken
-pub record Opens (app : Application) (left room : ℕ) (s : State) (f : Frame) : Type 0 where
-  pub idle : f.idle ≡ idle_count app s
-  pub can : All (CanBe app (InRun left room s)) f.choices
-  pub whole : (t : ℕ) → CanBe app (InRun left room s) t → IsTrue (is_in t f.choices)
-  pub once : AreOnce f.choices
-  pub at : f.at < length f.choices
-
-abbrev pub IsFrame : Application → Spot → Frame → Type 0
-IsFrame app (AtEnd s) f = ⊥
-IsFrame app (InRun left room s) f = Opens app left room s f
-
--- so it is where the turns before it lead
-abbrev pub IsWay : Application → List Command → State → List Frame → Type 0
-IsWay app cs s frames = (before : List Frame) (f : Frame) (behind : List Frame) → frames ≡ before ++ f ∷ behind → IsFrame app (stand app cs s (turns_in before)) f
+use Rattle.lab_walks.specs.Walks.{Spot, InRun, AtEnd, stand, stand_run}
 
 -- turns of a script from a state
 pub record Quest : Type 0 where

@@ -7,9 +7,9 @@ use Rattle.abstract_monitor.specs.State.{Application, State}
 use Rattle.abstract_monitor.specs.Trace.{bytes_of}
 use Rattle.laws_of_states.specs.ItemsLaws.{IsIn}
 use Rattle.lab_orders.specs.declared.explored.Outcome.{Outcome}
-use Rattle.lab_orders.specs.Lists.{AreOnce}
-use Rattle.lab_orders.specs.Orders.{HasOutcome, order_steps}
-use Rattle.lab_orders.specs.Walks.{IsWalk}
+use Rattle.lab_walks.specs.Lists.{AreOnce}
+use Rattle.lab_walks.specs.Orders.{HasOutcome, order_steps}
+use Rattle.lab_walks.specs.Walks.{IsWalk}
 
 -- how many turns of tasks a walk has: 0 is none
 abbrev pub turns_of : (walk : List ℕ) → ℕ

@@ -5,7 +5,7 @@ use Rattle.laws_of_states.specs.Keeping.{HasFacts}
 use Rattle.monitor_core.specs.CoreValue.{CoreValue}
 use Rattle.service_ends.specs.Ending.{turned_to}
 use Rattle.service_ends.specs.declared.turned.Turned.{Turned as Did}
-use Rattle.lab_orders.specs.Orders.{has_effect}
+use Rattle.lab_walks.specs.Orders.{has_effect}
 
 -- a turn with an effect was done, or the state is as it was
 abbrev pub DidOrNot : CoreValue → (task : ℕ) → CoreValue → Option Did → Type 0

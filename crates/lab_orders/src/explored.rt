@@ -6,13 +6,14 @@ ghost use Rattle.lab_orders.specs.{Exploring.{AllOrMore, AreAll, AreDistinct, Ar
 
 use crate::draw::drawn_order;
 use crate::laws_of_orders::{orders_are_walked, walks_are_orders};
-use crate::path::{Signs, Turns};
-use crate::search::{Found, advance, descend};
+use crate::path::Signs;
+use crate::search::{Found, descend};
 use abstract_monitor::Command;
 use application_types::generation::Generation;
 use application_types::units::Units;
 use kd_base::{Bytes, OutOfMemory, Sequence};
 use kdcs_types::Tables;
+use lab_walks::{Turns, advance};
 use laws_of_runs::laws_of_applications::fitted_units_make_an_application;
 use rand_core::SeedableRng;
 use rand_xoshiro::SplitMix64;

@@ -13,7 +13,6 @@
 
 mod draw;
 mod explored;
-mod frame;
 pub mod laws_of_orders;
 mod path;
 mod reach;
@@ -25,5 +24,6 @@ mod step;
 mod turns;
 
 pub use explored::{Explored, Outcome, explore};
-pub use path::{Signs, Turns};
+pub use lab_walks::Turns;
+pub use path::Signs;
 pub use script::turned;

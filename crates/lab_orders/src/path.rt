@@ -3,16 +3,13 @@ ghost use Rattle.std.specs.Prelude.{◌≡◌, ◌++◌, ◌∷◌, [], OnOk};
 ghost use Rattle.abstract_monitor.specs.Trace.{bytes_of, tables_after};
 ghost use Rattle.monitor_core.specs.Keeping.{AreKept};
 
-use kd_base::{Bytes, OutOfMemory, Sequence};
+use kd_base::{Bytes, OutOfMemory};
 use kdcs_types::{Act, Acts, Code, Ending, Note, Tables};
+use lab_walks::Turns;
 use monitor_core::script_run::keep_commits;
 use monitor_core::{Core, Turned};
 use std::alloc::Global;
 use sync_points::KeptRecord;
-
-/// The turns of all RUNs of a script that have an effect, one after another, each the number of its task. 0 ends a RUN that
-/// is over before it had so many.
-pub type Turns = Sequence<u16>;
 
 /// What is worth a look in an order.
 #[derive(Clone, Copy, Debug, PartialEq, Eq)]

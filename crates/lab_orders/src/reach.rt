@@ -3,10 +3,10 @@ ghost use Rattle.std.specs.Prelude.{◌≡◌, ◌+◌, ◌*◌, ◌≤◌, ◌^
 ghost use Rattle.abstract_monitor.specs.{Commands.{started}, CommandsOf.{IsCommandOf}};
 ghost use Rattle.laws_of_runs.specs.Applied.{applied};
 ghost use Rattle.laws_of_states.specs.Keeping.{HasFacts, IsScriptOf};
-ghost use Rattle.lab_orders.specs.{Finding.{CanStart}, Searching.{CanCount, IsTaken, IsWay, Reached, WentCommand, WentRun, quest_of}, Walking.{IsBeside, tries_of}};
+ghost use Rattle.lab_orders.specs.{Finding.{CanStart}, Searching.{CanCount, IsTaken, Reached, WentCommand, WentRun, quest_of}, Walking.{IsBeside, tries_of}};
 ghost use Rattle.lab_orders.specs.Searching.{Followed};
+ghost use Rattle.lab_walks.specs.Frames.{IsWay};
 
-use crate::frame::Frame;
 use crate::path::Path;
 use crate::start::begin;
 use crate::step::{do_command, do_turn};
@@ -15,6 +15,7 @@ use application_types::generation::Generation;
 use application_types::units::Units;
 use kd_base::OutOfMemory;
 use kdcs_types::Tables;
+use lab_walks::Frame;
 use monitor_core::Core;
 use std::alloc::Global;
 

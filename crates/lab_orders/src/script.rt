@@ -1,7 +1,7 @@
 //! The script that an order stands for: TURN commands in place of RUNs.
 ghost use Rattle.std.specs.Prelude.{◌≡◌, ◌++◌, ◌∷◌, ℕ, List, IfOk};
 ghost use Rattle.abstract_monitor.specs.declared.command.Command.{Command};
-ghost use Rattle.lab_orders.specs.Orders.{turned_run, turned_script};
+ghost use Rattle.lab_walks.specs.Orders.{turned_run, turned_script};
 
 use abstract_monitor::Command;
 use kd_base::{Bytes, OutOfMemory};

@@ -3,13 +3,13 @@ ghost use Rattle.std.specs.Prelude.{◌≡◌, ◌⊎◌, ◌+◌, ◌*◌, ◌�
 ghost use Rattle.abstract_monitor.specs.{Commands.{started}, Listing.{listing}};
 ghost use Rattle.laws_of_runs.specs.Applied.{applied};
 ghost use Rattle.laws_of_states.specs.Keeping.{HasFacts};
-ghost use Rattle.lab_orders.specs.Finding.{AdvancedOrNot, AreTried, CanStart, Descended, IsSame, SawIt};
-ghost use Rattle.lab_orders.specs.Searching.{CanGo, IsFrame, IsTaken, IsWay, state_at, turns_in};
+ghost use Rattle.lab_orders.specs.Finding.{AreTried, CanStart, Descended, IsSame, SawIt};
+ghost use Rattle.lab_orders.specs.Searching.{CanGo, IsTaken, state_at};
+ghost use Rattle.lab_walks.specs.Frames.{IsFrame, IsWay, turns_in};
 ghost use Rattle.lab_orders.specs.Walking.{tries_of};
-ghost use Rattle.lab_orders.specs.Walks.{InRun, IsEnd, stand};
+ghost use Rattle.lab_walks.specs.Walks.{InRun, IsEnd, stand};
 
-use crate::frame::{Frame, turns_of};
-use crate::path::{Path, Signs, Turns};
+use crate::path::{Path, Signs};
 use crate::reach::{Place, reach};
 use crate::turns::try_effect;
 use abstract_monitor::Command;
@@ -17,6 +17,7 @@ use application_types::generation::Generation;
 use application_types::units::Units;
 use kd_base::{Bytes, OutOfMemory};
 use kdcs_types::Tables;
+use lab_walks::{Frame, Turns, ends, turns_of};
 use monitor_core::Core;
 use monitor_parts::output_lines::table_lines;
 use std::alloc::Global;
@@ -104,14 +105,6 @@ fn try_tasks(
         }
     }
     Ok((core, choices, idle))
-}
-
-// Whether 0 can be next: no turn has an effect, or all are spent with as many without effect as there may have been.
-fn ends(choices: &[u16], left: u64, idle: u64) -> bool
-    ensures yes { result ≡ true → (choices.now ≡ []) ⊎ (left + 1 ≤ idle) }
-    ensures no { result ≡ false → (choices.now ≡ [] → ⊥) × (idle ≤ left) }
-{
-    choices.is_empty() || left < idle
 }
 
 // What can be next in a RUN with so many turns left behind it, and so many without effect before.
@@ -207,20 +200,4 @@ pub(crate) fn descend(
         }
     }
     unreachable!()
-}
-
-/// The next choice at the last place where there is one. False where there is none.
-pub(crate) fn advance(frames: &mut Vec<Frame>) -> Result<bool, OutOfMemory>
-    ensures { IfOk result (λ more. AdvancedOrNot frames.old.items frames.new.items more) }
-{
-    while let Some(frame) = frames.pop() {
-        if frame.at < frame.choices.len().saturating_sub(1) {
-            frames.push(Frame {
-                at: frame.at + 1,
-                ..frame
-            })?;
-            return Ok(true);
-        }
-    }
-    Ok(false)
 }

@@ -2,10 +2,12 @@
 ghost use Rattle.std.specs.Prelude.{◌≡◌, ◌+◌, ◌<◌, ◌^◌, IfOk};
 ghost use Rattle.application_types.specs.Statements.{IsWithin};
 ghost use Rattle.laws_of_states.specs.Keeping.{HasFacts};
-ghost use Rattle.lab_orders.specs.{Orders.{same_wait, wait_in}, Trying.{Tried, TriedEffect}};
+ghost use Rattle.lab_orders.specs.Trying.{Tried, TriedEffect};
+ghost use Rattle.lab_walks.specs.Orders.{wait_in};
 
 use kd_base::OutOfMemory;
 use kdcs_types::Area;
+use lab_walks::shows_effect;
 use monitor_core::{Core, Turned};
 use std::alloc::Global;
 
@@ -18,17 +20,6 @@ fn wait_in(core: &Core, task: u16) -> Option<(Area, u64)>
     let parts = core.parts();
     let id = parts.scheduler.held_by(task)?;
     parts.locks.wait_of(id).copied()
-}
-
-// The same request, since the same clock.
-fn same_wait(one: Option<(Area, u64)>, other: Option<(Area, u64)>) -> bool
-    ensures { result ≡ same_wait one other }
-{
-    match (one, other) {
-        (None, None) => true,
-        (Some(one), Some(other)) => one.0 == other.0 && one.1 == other.1,
-        (None, Some(_)) | (Some(_), None) => false,
-    }
 }
 
 /// A turn of a task, from 1 to TASKS, and what it did where it has an effect. Without one the monitor is as it was.
@@ -46,7 +37,7 @@ pub(crate) fn try_turn(
     let before = wait_in(&core, task);
     let (next, did) = core.turn(alloc, task)?;
     let after = wait_in(&next, task);
-    if did.moved || !same_wait(before, after) {
+    if shows_effect(did.moved, before, after) {
         Ok((next, Some(did)))
     } else {
         Ok((next, None))

@@ -6,13 +6,14 @@
 ghost use Rattle.std.specs.{Prelude.{◌≡◌, ◌↔◌, false, IsTrue, IfOk, IfNone, IfSome, OnOk, OnErr, None, Some, ◌&&◌, if◌then◌else◌, ◌+◌, nat_le, length, option_copied}, FinMap.{find, is_sorted}};
 ghost use Rattle.kdcs_types.specs.{declared.key.Area.{Area}, declared.key.ServiceId.{ServiceId}, Keys.{area_cmp, area_eq, id_cmp, id_eq}};
 ghost use Rattle.abstract_monitor.specs.declared.answer.LockAnswer.TheVariants as lock_answer;
-ghost use Rattle.abstract_monitor.specs.Locks.{holder, waits_for, since, is_deadlocked, answer_of, refused_by, IsDeadlocked};
+ghost use Rattle.abstract_monitor.specs.Locks.{holder, waits_for, since, is_deadlocked, answer_of, IsDeadlocked};
 ghost use Rattle.monitor_parts.specs.{Asked.{no_locks, asked, locks_after, holder_after, holds_area, unlocked, with_holder, without_wait, freed, other_than}, Index.{IsOpenTo}};
 
 use abstract_monitor::LockAnswer;
 use kd_base::OutOfMemory;
 use kd_base::sorted_pairs::OrderedMap;
 use kdcs_types::{Area, ServiceId};
+use monitor_rules::refused;
 use std::alloc::Global;
 use std::marker::Model;
 
@@ -259,15 +260,4 @@ fn holding(who: &ServiceId, area: &Area) -> Holding
     ensures { result ≡ (who.now, Some area.now) }
 {
     (*who, Some(*area))
-}
-
-// A deadlock is answered before the wait is looked at.
-fn refused(deadlock: bool, late: bool) -> LockAnswer
-    ensures { result ≡ refused_by deadlock late }
-{
-    match (deadlock, late) {
-        (true, _) => LockAnswer::Deadlock,
-        (false, true) => LockAnswer::Busy,
-        (false, false) => LockAnswer::Wait,
-    }
 }

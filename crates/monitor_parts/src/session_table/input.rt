@@ -5,13 +5,13 @@ ghost use Rattle.abstract_monitor.specs.{CommandsOf.{is_pterm}, Sessions.{after_
 ghost use Rattle.abstract_monitor.specs.declared.input_use.Use.TheVariants.{Sign};
 ghost use Rattle.monitor_parts.specs.Inputs.{denies, holds_text, start_use};
 
-use crate::access_rules::decide;
 use crate::session_table::sessions::Sessions;
 use crate::session_table::split::Split;
 use abstract_monitor::{ServiceState, SignFault, TacFault, Use};
 use application_types::generation::Generation;
 use application_types::kdcdef_types::CallUse;
 use kd_base::{Bytes, Name, OutOfMemory};
+use monitor_rules::decide;
 use std::alloc::Global;
 
 /// Who types an input, and the LTERM of the terminal.

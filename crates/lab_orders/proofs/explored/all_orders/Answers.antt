@@ -2,8 +2,9 @@ use Rattle.std.proofs.Common.{arith, subst, sym}
 use Rattle.abstract_monitor.specs.Commands.{started}
 use Rattle.abstract_monitor.specs.State.{Application}
 use Rattle.laws_of_runs.specs.Applied.{applied}
-use Rattle.lab_orders.specs.Finding.{AdvancedOrNot, Descended}
-use Rattle.lab_orders.specs.Searching.{IsWay}
+use Rattle.lab_orders.specs.Finding.{Descended}
+use Rattle.lab_walks.specs.Frames.{AdvancedOrNot}
+use Rattle.lab_walks.specs.Frames.{IsWay}
 use Rattle.lab_orders.proofs.Covering.{tried_all, tried_further, tried_more, tried_start}
 use Rattle.lab_orders.proofs.Finding.{start_again, start_next}
 use Rattle.lab_orders.proofs.explored.all_orders.Goals as goal

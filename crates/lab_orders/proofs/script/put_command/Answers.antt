@@ -1,7 +1,7 @@
 use Rattle.std.proofs.Common.{List, [], ◌∷◌, ◌++◌, ap, ◌∙◌}
 use Rattle.std.proofs.lemmas.Result.{IfOk-weaker}
 use Rattle.abstract_monitor.specs.declared.command.Command.{Command}
-use Rattle.lab_orders.specs.Orders.{turned_script}
+use Rattle.lab_walks.specs.Orders.{turned_script}
 use Rattle.lab_orders.proofs.Commands.{no_run}
 use Rattle.lab_orders.proofs.Scripts.{command_put, run_put}
 use Rattle.lab_orders.proofs.script.put_command.Goals as goal

@@ -3,7 +3,7 @@ use Rattle.abstract_monitor.specs.Commands.{started}
 use Rattle.abstract_monitor.specs.State.{Application}
 use Rattle.laws_of_runs.specs.Applied.{applied}
 use Rattle.lab_orders.specs.Finding.{SawIt}
-use Rattle.lab_orders.specs.Searching.{IsWay}
+use Rattle.lab_walks.specs.Frames.{IsWay}
 use Rattle.lab_orders.proofs.Finding.{start_again, start_next}
 use Rattle.lab_orders.proofs.Found.{deeper_kept, deeper_only, deeper_way, descended, longer, saw_next}
 use Rattle.lab_orders.proofs.search.descend.Goals as goal

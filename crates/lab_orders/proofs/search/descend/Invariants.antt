@@ -1,9 +1,10 @@
 use Rattle.std.proofs.Common.{ℕ, List, ◌≤◌, length}
 use Rattle.abstract_monitor.specs.Commands.{started}
 use Rattle.laws_of_runs.specs.Applied.{applied}
-use Rattle.lab_orders.specs.Finding.{CanStart, IsAhead}
-use Rattle.lab_orders.specs.Searching.{IsWay}
-use Rattle.lab_orders.specs.Walks.{IsWalk}
+use Rattle.lab_orders.specs.Finding.{CanStart}
+use Rattle.lab_walks.specs.Frames.{IsAhead}
+use Rattle.lab_walks.specs.Frames.{IsWay}
+use Rattle.lab_walks.specs.Walks.{IsWalk}
 use Rattle.lab_orders.proofs.search.descend.Given as goal
 
 abbrev pub invariant-loop-deeper : goal.invariant-loop-deeper

@@ -1,7 +1,7 @@
 use Rattle.std.proofs.Common.{inl, inr, refl, sym, arith, ◌∙◌, ◌+◌, ◌≤◌, ◌≡◌, []}
 use Rattle.std.specs.Prelude.{◌⊎◌}
-use Rattle.lab_orders.specs.Searching.{IsFrame}
-use Rattle.lab_orders.specs.Walks.{InRun}
+use Rattle.lab_walks.specs.Frames.{IsFrame}
+use Rattle.lab_walks.specs.Walks.{InRun}
 use Rattle.lab_orders.proofs.Searching.{opens_turns, opens_zero}
 use Rattle.lab_orders.proofs.search.open.Goals as goal
 use Rattle.lab_orders.proofs.search.open.Goals.{then-ends+in_ok-push, else-ends}

@@ -3,8 +3,9 @@ use Rattle.abstract_monitor.specs.Commands.{started}
 use Rattle.abstract_monitor.specs.State.{Application}
 use Rattle.laws_of_runs.specs.Applied.{applied}
 use Rattle.lab_orders.specs.declared.reach.Place.{Place}
-use Rattle.lab_orders.specs.Searching.{CanCount, CanGo, IsFrame, IsWay, Reached, quest_of, spot_of, turns_in}
-use Rattle.lab_orders.specs.Walks.{InRun, Spot, stand}
+use Rattle.lab_orders.specs.Searching.{CanCount, CanGo, Reached, quest_of, spot_of}
+use Rattle.lab_walks.specs.Frames.{IsFrame, IsWay, turns_in}
+use Rattle.lab_walks.specs.Walks.{InRun, Spot, stand}
 use Rattle.lab_orders.proofs.Found.{saw_end}
 use Rattle.lab_orders.proofs.Reaching.{way_taken}
 use Rattle.lab_orders.proofs.search.see.Goals as goal

@@ -3,9 +3,10 @@ use Rattle.std.specs.Prelude.{sum_by}
 use Rattle.abstract_monitor.specs.Commands.{started}
 use Rattle.abstract_monitor.specs.State.{Application}
 use Rattle.monitor_core.specs.CoreValue.{CoreValue}
-use Rattle.lab_orders.specs.Searching.{CanGo, IsWay, state_at, turns_in}
+use Rattle.lab_orders.specs.Searching.{CanGo, state_at}
+use Rattle.lab_walks.specs.Frames.{IsWay, turns_in}
 use Rattle.lab_orders.specs.Walking.{tries_of}
-use Rattle.lab_orders.specs.Walks.{stand}
+use Rattle.lab_walks.specs.Walks.{stand}
 use Rattle.lab_orders.proofs.Searching.{Trying, trying_effect, trying_idle, trying_over, trying_start, trying_within}
 use Rattle.lab_orders.proofs.search.try_tasks.Goals as goal
 use Rattle.lab_orders.proofs.search.try_tasks.Goals.{then-moved+in_ok-push+in_ok-core, else-moved}

@@ -9,7 +9,7 @@ use Rattle.service_ends.specs.Schedule.{IsTask, place_of, service_in}
 use Rattle.service_ends.specs.declared.core_state.parts.MonitorParts.{MonitorParts}
 use Rattle.monitor_core.specs.CoreValue.{CoreValue, core_value}
 use Rattle.monitor_core.specs.WholeLaws.{is_task, seat_of}
-use Rattle.lab_orders.specs.Orders.{wait_by, wait_in}
+use Rattle.lab_walks.specs.Orders.{wait_by, wait_in}
 use Rattle.lab_orders.proofs.turns.wait_in.Goals as goal
 
 module _ (p : MonitorParts) (v : CoreValue) (task : ℕ) (same : core_value p ≡ v) (facts : HasFacts v.application v.state) (within : IsWithin 1 v.application.generation.limits.tasks task) where

@@ -1,0 +1,6 @@
+pub mod Frames
+pub mod FramesLaws
+pub mod Lists
+pub mod ListsLaws
+pub mod Orders
+pub mod Walks
