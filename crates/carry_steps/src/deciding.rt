@@ -1,0 +1,60 @@
+//! Decisions on plain values.
+ghost use Rattle.std.specs.Prelude.{◌≡◌, ◌<◌, ◌+◌, ◌^◌, true, IfSome};
+ghost use Rattle.carry_steps.specs.Deciding.{is_asked, next_sequence, preparing, shuts_second};
+
+use kd_device::Half;
+
+/// What is done before the first file is changed.
+#[derive(Clone, Copy, PartialEq, Eq)]
+pub enum Preparation {
+    Nothing,
+    /// The second file is shut.
+    Shut,
+    /// The first file is written anew from the second one.
+    Anew,
+    /// The first file is written anew from the second one, which is shut then.
+    AnewThenShut,
+}
+
+/// The sequence of the copy that is made, if one is: the next one, or 0 where there was no copy.
+pub fn next_sequence(double: bool, sequence: Option<u64>) -> Option<u64>
+    requires { double ≡ true → IfSome sequence (λ n. n + 1 < 2 ^ 64) }
+    ensures { result ≡ next_sequence double sequence }
+{
+    if !double {
+        return None;
+    }
+    match sequence {
+        None => Some(0),
+        Some(last) => Some(last + 1),
+    }
+}
+
+/// Whether there are two copies, where two are asked for, and one file, where one is.
+pub fn is_asked(double: bool, two: bool) -> bool
+    ensures { result ≡ is_asked double two }
+{
+    double == two
+}
+
+/// Whether a second copy is shut: there is one, with this sequence, and one file is asked for.
+pub fn shuts_second(double: bool, sequence: Option<u64>) -> bool
+    ensures { result ≡ shuts_second double sequence }
+{
+    match sequence {
+        None => false,
+        Some(_) => !double,
+    }
+}
+
+/// What is done before the first file is changed, where this half has the copy that counts: that one is never shut.
+pub fn preparing(home: Half, shuts: bool) -> Preparation
+    ensures { result ≡ preparing home shuts }
+{
+    match (home, shuts) {
+        (Half::First, false) => Preparation::Nothing,
+        (Half::First, true) => Preparation::Shut,
+        (Half::Second, false) => Preparation::Anew,
+        (Half::Second, true) => Preparation::AnewThenShut,
+    }
+}
