@@ -189,10 +189,10 @@ module _ (base to : List ℕ) (a b : Both) (la lb : ℕ → List ℕ → List �
               inr (
                 sym (stays told_to).holds ∙ w.0,
                 (
-                  w.1,
-                  subst (λ (l : List ℕ). AreFiles w.1 l a.second.holds) (rests told).files.first_holds (subst (λ (l : List ℕ). AreFiles w.1 b.first.holds l) (rests told).files.second_holds w.2),
-                  w.3,
-                  subst (λ (n : ℕ). u.put ≤ n + backup_most (generation_of e) e.fingerprint w.1.tables) (stays told_to).put w.4,
+                  w.1.0,
+                  subst (λ (l : List ℕ). AreFiles w.1.0 l a.second.holds) (rests told).files.first_holds (subst (λ (l : List ℕ). AreFiles w.1.0 b.first.holds l) (rests told).files.second_holds w.1.1),
+                  w.1.2,
+                  subst (λ (n : ℕ). u.put ≤ n + backup_most (generation_of e) e.fingerprint w.1.0.tables) (stays told_to).put w.1.3,
                 ),
               )
 

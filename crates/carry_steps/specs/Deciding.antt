@@ -1,9 +1,5 @@
 -- What is decided of files that are carried.
 use Rattle.std.specs.Prelude.{ℕ, ◌+◌, Bool, true, false, not, Option, Some, None}
-use Rattle.kd_device.specs.declared.half.Half.{Half}
-use Rattle.kd_device.specs.declared.half.Half.TheVariants.{First, Second}
-use Rattle.carry_steps.specs.declared.deciding.Preparation.{Preparation}
-use Rattle.carry_steps.specs.declared.deciding.Preparation.TheVariants as before
 
 -- the sequence of the copy that is made: of the next one, or of the first one of an application that had one file
 abbrev pub next_sequence : (double : Bool) → Option ℕ → Option ℕ
@@ -20,10 +16,3 @@ is_asked false two = not two
 abbrev pub shuts_second : (double : Bool) → Option ℕ → Bool
 shuts_second double None = false
 shuts_second double (Some n) = not double
-
--- the first file has the copy that counts, before the second one is shut
-abbrev pub preparing : Half → (shuts : Bool) → Preparation
-preparing First false = before.Nothing
-preparing First true = before.Shut
-preparing Second false = before.Anew
-preparing Second true = before.AnewThenShut

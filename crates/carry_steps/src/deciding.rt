@@ -1,20 +1,6 @@
 //! Decisions on plain values.
 ghost use Rattle.std.specs.Prelude.{◌≡◌, ◌<◌, ◌+◌, ◌^◌, true, IfSome};
-ghost use Rattle.carry_steps.specs.Deciding.{is_asked, next_sequence, preparing, shuts_second};
-
-use kd_device::Half;
-
-/// What is done before the first file is changed.
-#[derive(Clone, Copy, PartialEq, Eq)]
-pub enum Preparation {
-    Nothing,
-    /// The second file is shut.
-    Shut,
-    /// The first file is written anew from the second one.
-    Anew,
-    /// The first file is written anew from the second one, which is shut then.
-    AnewThenShut,
-}
+ghost use Rattle.carry_steps.specs.Deciding.{is_asked, next_sequence, shuts_second};
 
 /// The sequence of the copy that is made, if one is: the next one, or 0 where there was no copy.
 pub fn next_sequence(double: bool, sequence: Option<u64>) -> Option<u64>
@@ -44,17 +30,5 @@ pub fn shuts_second(double: bool, sequence: Option<u64>) -> bool
     match sequence {
         None => false,
         Some(_) => !double,
-    }
-}
-
-/// What is done before the first file is changed, where this half has the copy that counts: that one is never shut.
-pub fn preparing(home: Half, shuts: bool) -> Preparation
-    ensures { result ≡ preparing home shuts }
-{
-    match (home, shuts) {
-        (Half::First, false) => Preparation::Nothing,
-        (Half::First, true) => Preparation::Shut,
-        (Half::Second, false) => Preparation::Anew,
-        (Half::Second, true) => Preparation::AnewThenShut,
     }
 }

@@ -67,11 +67,11 @@ module _ (k : Kept) (a b : Both) (la lb : ℕ → List ℕ → List ℕ → List
 
 -- whether it is shut
 pub not_shut : (double : Bool) (s : Option ℕ) → shuts_second double s ≡ false → double ≡ false → (n : ℕ) → s ≡ Some n → ⊥
-not_shut true s no one n is = absurd cc
-not_shut false None no one n is = absurd cc
-not_shut false (Some m) no one n is = absurd cc
+not_shut true s stays one n is = absurd cc
+not_shut false None stays one n is = absurd cc
+not_shut false (Some m) stays one n is = absurd cc
 
 pub is_shut : (double : Bool) (s : Option ℕ) → shuts_second double s ≡ true → (double ≡ false) × ((n : ℕ) × (s ≡ Some n))
-is_shut double None yes = absurd cc
-is_shut true (Some n) yes = absurd cc
-is_shut false (Some n) yes = (refl, (n, refl))
+is_shut double None shuts = absurd cc
+is_shut true (Some n) shuts = absurd cc
+is_shut false (Some n) shuts = (refl, (n, refl))

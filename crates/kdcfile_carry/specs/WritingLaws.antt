@@ -145,7 +145,7 @@ module _ (a b : Both) (same : SameFiles a b) where
     }
 
     writes_since : (g : Generated) (fingerprint : List ℕ) (P : Files → Type 0) (f : Files) → Writes g fingerprint P f b e → Writes g fingerprint P f a e
-    writes_since g fingerprint P f (inl h) = inl (h.0, (h.1, other_since f h.1 h.2, anew_since h.1 h.3))
+    writes_since g fingerprint P f (inl h) = inl (h.0, (h.1.0, other_since f h.1.0 h.1.1, anew_since h.1.0 h.1.2))
     writes_since g fingerprint P f (inr h) = inr (h.0, h.1, carried_since g fingerprint f h.2)
 
     pub most_since : (g : Generated) (fingerprint : List ℕ) (P : Files → Type 0) → WritesAtMost g fingerprint P b e → WritesAtMost g fingerprint P a e
@@ -171,7 +171,7 @@ module _ (a b e : Both) (same : SameFiles b e) where
   }
 
   writes_then : (g : Generated) (fingerprint : List ℕ) (P : Files → Type 0) (f : Files) → Writes g fingerprint P f a b → Writes g fingerprint P f a e
-  writes_then g fingerprint P f (inl h) = inl (h.0, (h.1, h.2, anew_then h.1 h.3))
+  writes_then g fingerprint P f (inl h) = inl (h.0, (h.1.0, h.1.1, anew_then h.1.0 h.1.2))
   writes_then g fingerprint P f (inr h) = inr (h.0, h.1, carried_more g fingerprint f h.2)
 
   pub most_then : (g : Generated) (fingerprint : List ℕ) (P : Files → Type 0) → WritesAtMost g fingerprint P a b → WritesAtMost g fingerprint P a e

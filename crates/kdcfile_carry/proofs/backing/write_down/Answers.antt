@@ -4,6 +4,7 @@ use Rattle.kd_records.specs.Charge.{total_charge}
 use Rattle.kd_records.specs.Contents.{IsContent}
 use Rattle.table_fit.specs.ShortLaws.{suiting_tables_are_short}
 use Rattle.device_acts.specs.ContentLaws.{content_charged, content_there}
+use Rattle.kdcfile_double.specs.MendLaws.{on_ok}
 use Rattle.kdcfile_carry.specs.Writing.{backup_most}
 use Rattle.kdcfile_carry.proofs.Sizes.{written_since}
 use Rattle.kdcfile_carry.proofs.backing.write_down.Given.{Over}
@@ -45,3 +46,9 @@ returns-clause-put_most g c = λ told.
     let told_d : IsTrue (g.D.Device.state c.write_content.new.device).told = subst IsTrue (sym c.write_content.ensures.frame.told) told_b in
     subst (λ (n : ℕ). (n ≡ (g.D.Device.state c.args.to.now).put) ⊎ (((g.D.Device.state c.args.to.now).holds ≡ []) × (n ≤ (g.D.Device.state c.args.to.now).put + backup_most c.args.generation.now c.args.fingerprint.now c.args.tables.now)))
     (sym (c.read_back.ensures.rests told_d).put) (writes g (goal.at.returns-clause-put_most g c).After-write_content told)
+
+pub returns-clause-at_rest : goal.returns-clause-at_rest
+returns-clause-at_rest g c = on_ok c.read_back.result _
+    (λ told.
+    let told_b : IsTrue (g.D.Device.state c.is_empty.new.device).told = subst IsTrue (sym c.is_empty.ensures.frame.told) told in
+    c.read_back.ensures.at_rest (subst IsTrue (sym c.write_content.ensures.frame.told) told_b))

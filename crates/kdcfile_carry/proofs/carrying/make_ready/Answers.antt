@@ -27,7 +27,7 @@ stays g c told =
 writes : (g : Over) (c : After-shut_second g) → IsTrue (g.T.Twin.both c.args.twin.now).told → Shuts (is_some c.args.generation.now.double) (files_in c.args.kept.now) (g.T.Twin.both c.args.twin.now) (g.T.Twin.both c.shut_second.new.twin)
 writes g c told =
     let is = is_shut (is_some c.args.generation.now.double) c.args.kept.now.sequence (sym c.shuts_copy.ensures ∙ c.if-not-shuts_copy.false) in
-    shuts_copy (is_some c.args.generation.now.double) (files_in c.args.kept.now) (g.T.Twin.both c.args.twin.now) (g.T.Twin.both c.shut_second.new.twin) is.1 is.0 is.2 (ap (λ (x : Disk). x.put) c.shut_second.ensures.other_half) (c.shut_second.ensures.put_most told)
+    shuts_copy (is_some c.args.generation.now.double) (files_in c.args.kept.now) (g.T.Twin.both c.args.twin.now) (g.T.Twin.both c.shut_second.new.twin) is.1.0 is.0 is.1.1 (ap (λ (x : Disk). x.put) c.shut_second.ensures.other_half) (c.shut_second.ensures.put_most told)
 
 pub returns-in_err-shut_second-clause-any_moment : goal.returns-in_err-shut_second-clause-any_moment
 returns-in_err-shut_second-clause-any_moment g c = stays g (goal.at.returns-in_err-shut_second-clause-any_moment g c).After-shut_second
