@@ -1,6 +1,6 @@
 -- The second file is shut beside the first one, which has what was found.
 use Rattle.std.specs.Prelude.{◌≡◌, ◌⊎◌, ◌≤◌, ℕ, Bool, true, false, List, Option, Some, None}
-use Rattle.std.proofs.Common.{inl, inr, ⊎_elim, refl, sym, ap, subst, ◌∙◌}
+use Rattle.std.proofs.Common.{inl, inr, ⊎_elim, refl, sym, ap, subst}
 use Rattle.kd_device.specs.Twin.{Both, Disk}
 use Rattle.kd_device.specs.declared.half.Half.TheVariants.{First, Second}
 use Rattle.kdcfile_layout.specs.Gates.{IsShut}

@@ -1,5 +1,5 @@
 -- Which files are carried to a new generation, and what they are then.
-use Rattle.std.specs.Prelude.{◌≡◌, ⊤, ◌⊎◌, ◌≤◌, ℕ, ◌+◌, ◌-◌, Bool, true, false, ◌&&◌, List, Option, Some, None, IfSome, is_some, nat_le, Result, Ok, Err}
+use Rattle.std.specs.Prelude.{◌≡◌, ⊤, ◌⊎◌, ◌≤◌, ℕ, ◌-◌, Bool, true, false, ◌&&◌, List, Option, Some, None, IfSome, is_some, nat_le, Result, Ok, Err}
 use Rattle.kd_records.specs.Identity.{Identity}
 use Rattle.application_types.specs.Generation.{Generated}
 use Rattle.laws_of_states.specs.Suits.{Suits}

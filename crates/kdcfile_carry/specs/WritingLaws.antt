@@ -10,7 +10,6 @@ use Rattle.kdcfile_copies.specs.Copies.{IsCopyOf}
 use Rattle.kdcfile_copies.specs.Mending.{mending_most}
 use Rattle.kdcfile_double.specs.Opening.{SameFiles}
 use Rattle.kdcfile_carry.specs.Files.{AreFiles, Files}
-use Rattle.kdcfile_carry.specs.Promise.{IsBehind}
 use Rattle.kdcfile_carry.specs.Ways.{IsUpToDate, MayCarry}
 use Rattle.kdcfile_carry.specs.Writing.{Changes, IsFirstMost, IsOther, MakesAlike, MayBeCarried, MendsFirst, Prepares, Shuts, Writes, WritesAnew, WritesAtMost, WritesCarried, WritesNone, commit_most, second_most, shut_most}
 

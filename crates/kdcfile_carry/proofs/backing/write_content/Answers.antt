@@ -1,4 +1,4 @@
-use Rattle.std.proofs.Common.{◌≡◌, ap, subst, sym}
+use Rattle.std.proofs.Common.{ap, subst, sym}
 use Rattle.std.specs.Prelude.{IsTrue}
 use Rattle.device_acts.specs.Stands.{identity_for}
 use Rattle.kdcfile_store.specs.Paged.{identity_with}

@@ -1,4 +1,4 @@
-use Rattle.std.proofs.Common.{◌≡◌, sym, ap, subst, ◌∙◌}
+use Rattle.std.proofs.Common.{sym, ap, subst, ◌∙◌}
 use Rattle.std.specs.Prelude.{IsTrue, is_some}
 use Rattle.kd_device.specs.Twin.{Disk}
 use Rattle.kdcfile_carry.specs.Files.{AreFiles}

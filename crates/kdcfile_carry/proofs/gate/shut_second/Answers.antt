@@ -1,6 +1,3 @@
-use Rattle.std.proofs.Common.{◌≡◌, ap}
-use Rattle.std.specs.Prelude.{IsTrue}
-use Rattle.kd_device.specs.Twin.{Both, Disk}
 use Rattle.kdcfile_double.specs.MendLaws.{both_rest, each_rests}
 use Rattle.kdcfile_carry.proofs.Steps.{second_fine, second_frame}
 use Rattle.kdcfile_carry.proofs.gate.shut_second.Goals as goal
