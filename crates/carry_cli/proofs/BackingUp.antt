@@ -239,7 +239,7 @@ module _ (e : Errand) (base to : List ℕ) (a b : Both) (s s' : State) (leaves :
       device = λ is. absurd cc;
       fine = λ not. record { files = none.0; to = none.1 };
       leaves_all = all;
-    written = written;
+      written = written;
     }
 
     -- and then this was to be said
