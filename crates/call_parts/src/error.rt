@@ -8,7 +8,7 @@ use kd_base::OutOfMemory;
 use kd_device::DeviceError;
 use kdcfile_double::TwinOpenError;
 use kdcfile_update::CarryError;
-use kdcfile_update::kd_update::UpdateError;
+use kd_update::UpdateError;
 use refusals::FileRefusal;
 use thiserror::Error;
 

@@ -15,8 +15,8 @@ use Rattle.kdcfile_copies.specs.CopiesLaws.{some_none}
 use Rattle.kdcfile_double.specs.MakingLaws.{RestsBoth, none_rose_then, one_rose_then}
 use Rattle.kdcfile_double.specs.Opening.{SameFiles}
 use Rattle.kdcfile_double.specs.Twice.{FrameBoth, NoneRose}
-use Rattle.kdcfile_update.specs.declared.kd_update.error.UpdateError.{UpdateError}
-use Rattle.kdcfile_update.specs.declared.kd_update.error.UpdateError.TheVariants as cause
+use Rattle.kd_update.specs.declared.error.UpdateError.{UpdateError}
+use Rattle.kd_update.specs.declared.error.UpdateError.TheVariants as cause
 use Rattle.kdcfile_carry.specs.Doing.{RoseOnOne}
 use Rattle.kdcfile_carry.specs.Files.{AreFiles, Files, HaveTwoMeanings}
 use Rattle.kdcfile_carry.specs.Ways.{AreRefusedAs, AreSpent, MayCarry}

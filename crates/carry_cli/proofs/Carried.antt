@@ -19,8 +19,8 @@ use Rattle.kdcfile_double.specs.MakingLaws.{RestsBoth, none_rose_then, rests_the
 use Rattle.kdcfile_double.specs.Mended.{BothRest}
 use Rattle.kdcfile_double.specs.Opening.{SameFiles, last_sequence}
 use Rattle.kdcfile_double.specs.Twice.{NoneRose, RoseAt, SameFaultsAt}
-use Rattle.kdcfile_update.specs.declared.kd_update.error.UpdateError.{UpdateError}
-use Rattle.kdcfile_update.specs.declared.kd_update.error.UpdateError.TheVariants as cause
+use Rattle.kd_update.specs.declared.error.UpdateError.{UpdateError}
+use Rattle.kd_update.specs.declared.error.UpdateError.TheVariants as cause
 use Rattle.carry_steps.specs.Deciding.{next_sequence}
 use Rattle.kdcfile_carry.specs.Doing.{AreEither, FailsAlone}
 use Rattle.kdcfile_carry.specs.Files.{AreFiles, Files, HaveTwoMeanings}

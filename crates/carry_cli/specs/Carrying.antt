@@ -10,7 +10,7 @@ use Rattle.kdcfile_copies.specs.Beside.{file_of}
 use Rattle.kdcfile_copies.specs.Copies.{IsCopyOf}
 use Rattle.kdcfile_double.specs.Opening.{SameFiles}
 use Rattle.kdcfile_double.specs.Twice.{NoneRose}
-use Rattle.kdcfile_update.specs.Carrying.{carried, dropped}
+use Rattle.kd_update.specs.Carrying.{carried, dropped}
 use Rattle.kdcfile_carry.specs.Doing.{AreEither, FailsAlone}
 use Rattle.kdcfile_carry.specs.Files.{AreFiles, Files, HaveTwoMeanings}
 use Rattle.kdcfile_carry.specs.Losing.{rows_gone}

@@ -5,8 +5,8 @@ use Rattle.kd_device.specs.declared.error.DeviceError.{DeviceError}
 use Rattle.kd_device.specs.declared.error.DeviceError.TheVariants as device
 use Rattle.kdcfile_double.specs.MakingLaws.{RestsBoth}
 use Rattle.kdcfile_double.specs.Twice.{NoneRose}
-use Rattle.kdcfile_update.specs.declared.kd_update.error.UpdateError.{UpdateError}
-use Rattle.kdcfile_update.specs.declared.kd_update.error.UpdateError.TheVariants as cause
+use Rattle.kd_update.specs.declared.error.UpdateError.{UpdateError}
+use Rattle.kd_update.specs.declared.error.UpdateError.TheVariants as cause
 use Rattle.kdcfile_carry.specs.Doing.{FailsAlone}
 use Rattle.kdcfile_carry.specs.Files.{Files}
 use Rattle.kdcfile_carry.specs.Promise.{StandNow}

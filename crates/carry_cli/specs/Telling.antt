@@ -5,9 +5,9 @@ use Rattle.kd_device.specs.declared.half.Half.{Half}
 use Rattle.kd_device.specs.declared.half.Half.TheVariants.{First, Second}
 use Rattle.application_types.specs.Generation.{Generated}
 use Rattle.kdcfile_update.specs.Report.{dropped_line, ready_line, up_to_date_line, update_line}
-use Rattle.kdcfile_update.specs.declared.kd_update.carrying.Dropped.{Dropped}
-use Rattle.kdcfile_update.specs.declared.kd_update.error.UpdateError.{UpdateError}
-use Rattle.kdcfile_update.specs.declared.kd_update.error.UpdateError.TheVariants as cause
+use Rattle.kd_update.specs.declared.carrying.Dropped.{Dropped}
+use Rattle.kd_update.specs.declared.error.UpdateError.{UpdateError}
+use Rattle.kd_update.specs.declared.error.UpdateError.TheVariants as cause
 use Rattle.refusals.specs.Lines.{file_line}
 use Rattle.refusals.specs.declared.error.FileRefusal.TheVariants as file
 use Rattle.carry_cli.specs.Rows.{rows_text}

@@ -7,7 +7,7 @@ use crate::row_lines::rows_text;
 use application_types::generation::Generation;
 use kd_base::{Bytes, OutOfMemory};
 use kd_device::Half;
-use kdcfile_update::kd_update::{Dropped, UpdateError};
+use kd_update::{Dropped, UpdateError};
 use kdcs_types::Row;
 use refusals::Status;
 use std::alloc::{AllocError, Global};

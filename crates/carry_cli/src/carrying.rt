@@ -14,7 +14,7 @@ use call_parts::Work;
 use kd_device::{DeviceError, Half, Twin};
 use kdcfile_carry::{Alike, Carried, FilesError, Losses, Would, carry_files, would_carry};
 use kdcfile_copies::kdcfile_halves::say_both;
-use kdcfile_update::kd_update::{Dropped, UpdateError};
+use kd_update::{Dropped, UpdateError};
 use kdcs_types::Row;
 use refusals::Status;
 use std::alloc::Global;

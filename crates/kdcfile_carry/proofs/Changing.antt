@@ -25,7 +25,7 @@ use Rattle.kdcfile_double.specs.MendLaws.{copy_open}
 use Rattle.kdcfile_double.specs.Opening.{last_sequence}
 use Rattle.carry_steps.specs.Deciding.{next_sequence}
 use Rattle.kdcfile_carry.specs.declared.finding.Kept.{Kept}
-use Rattle.kdcfile_update.specs.Carrying.{carried}
+use Rattle.kd_update.specs.Carrying.{carried}
 use Rattle.kdcfile_carry.specs.Doing.{AreEither, IsOnFirst, IsReady}
 use Rattle.kdcfile_carry.specs.Files.{AreFiles, AreFilesBy, Files}
 use Rattle.kdcfile_carry.specs.FilesLaws.{copy_has_no_tables}

@@ -5,7 +5,7 @@ use Rattle.kd_device.specs.Twin.{Both}
 use Rattle.application_types.specs.Generation.{Generated}
 use Rattle.kdcfile_double.specs.MakingLaws.{RestsBoth}
 use Rattle.kdcfile_double.specs.Mended.{BothRest}
-use Rattle.kdcfile_update.specs.declared.kd_update.error.UpdateError.{UpdateError}
+use Rattle.kd_update.specs.declared.error.UpdateError.{UpdateError}
 use Rattle.kdcfile_carry.specs.Doing.{AreEither}
 use Rattle.kdcfile_carry.specs.Files.{AreFiles, Files}
 use Rattle.kdcfile_carry.specs.FilesLaws.{one_meaning_of_files}

@@ -27,12 +27,12 @@ use Rattle.device_acts.specs.ContentLaws.{content_charged, content_there}
 use Rattle.device_acts.specs.Stands.{AreTables}
 use Rattle.kdcfile_copies.specs.Copies.{IsBare, bare, sequence_alone, sequence_key, with_sequence}
 use Rattle.kdcfile_copies.specs.CopiesLaws.{alone_is_patch, bare_with_sequence, sequence_is_one_page}
-use Rattle.kdcfile_update.specs.Carrying.{carried}
-use Rattle.kdcfile_update.specs.Judging.{else_fault, judged}
+use Rattle.kd_update.specs.Carrying.{carried}
+use Rattle.kd_update.specs.Judging.{else_fault, judged}
 use Rattle.kdcfile_update.specs.Parts.{CanCarry}
-use Rattle.kdcfile_update.specs.SuitingLaws.{Passed, carried_tables_suit, passed_all}
+use Rattle.kd_update.specs.SuitingLaws.{Passed, carried_tables_suit, passed_all}
 use Rattle.kdcfile_update.specs.UpdatingLaws.{carried_are_tables}
-use Rattle.kdcfile_update.specs.declared.kd_update.error.UpdateError.{UpdateError}
+use Rattle.kd_update.specs.declared.error.UpdateError.{UpdateError}
 use Rattle.carry_steps.specs.Deciding.{next_sequence}
 use Rattle.kdcfile_carry.specs.declared.finding.Kept.{Kept}
 use Rattle.kdcfile_carry.specs.FilesLaws.{tables_are_bare}

@@ -1,7 +1,7 @@
 -- What the first file is changed beside, and which calls failed.
 use Rattle.std.specs.Prelude.{◌≡◌, ◌⊎◌, ℕ, Bool, List, Option, Some, is_some}
 use Rattle.application_types.specs.Generation.{Generated}
-use Rattle.kdcfile_update.specs.Carrying.{carried, dropped}
+use Rattle.kd_update.specs.Carrying.{carried, dropped}
 use Rattle.kd_device.specs.Twin.{Both}
 use Rattle.kd_device.specs.declared.half.Half.{Half}
 use Rattle.kd_device.specs.declared.half.Half.TheVariants.{First, Second}

@@ -4,7 +4,7 @@ use Rattle.application_types.specs.Generation.{Generated}
 use Rattle.kdcs_types.specs.declared.act.Row.{Row}
 use Rattle.kdcs_types.specs.Tables.{TableRows, row_at, row_key}
 use Rattle.record_codec.specs.Records.{rows_of}
-use Rattle.kdcfile_update.specs.Carrying.{carried}
+use Rattle.kd_update.specs.Carrying.{carried}
 use Rattle.kdcfile_carry.specs.declared.losing.Losses.{Losses}
 use Rattle.kdcfile_carry.specs.declared.losing.Losses.TheVariants.{Refused}
 use Rattle.kdcfile_carry.specs.Files.{Files}

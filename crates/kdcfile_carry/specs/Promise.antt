@@ -6,7 +6,7 @@ use Rattle.application_types.specs.Generation.{Generated}
 use Rattle.record_codec.specs.Records.{content_of_tables}
 use Rattle.kdcfile_copies.specs.Copies.{IsCopyOf}
 use Rattle.kdcfile_double.specs.MakingLaws.{RestsBoth}
-use Rattle.kdcfile_update.specs.Carrying.{carried, dropped}
+use Rattle.kd_update.specs.Carrying.{carried, dropped}
 use Rattle.kdcfile_carry.specs.declared.losing.Losses.{Losses}
 use Rattle.kdcfile_carry.specs.declared.losing.Losses.TheVariants.{Refused}
 use Rattle.kdcfile_carry.specs.declared.outcome.Alike.{Alike}
@@ -20,8 +20,8 @@ use Rattle.kdcfile_carry.specs.Files.{Files}
 use Rattle.kdcfile_carry.specs.Leaving.{EachStands, LeavesFiles}
 use Rattle.kdcfile_carry.specs.Losing.{rows_gone}
 use Rattle.kdcfile_double.specs.Opening.{last_sequence}
-use Rattle.kdcfile_update.specs.declared.kd_update.error.UpdateError.{UpdateError}
-use Rattle.kdcfile_update.specs.declared.kd_update.error.UpdateError.TheVariants.{NotKdcfile}
+use Rattle.kd_update.specs.declared.error.UpdateError.{UpdateError}
+use Rattle.kd_update.specs.declared.error.UpdateError.TheVariants.{NotKdcfile}
 use Rattle.kdcfile_carry.specs.Ways.{AreOwn, IsUpToDate, MayCarry, carried_files, judgement}
 
 -- the files are these, also after a stop, and so is each half, but for one that is lost

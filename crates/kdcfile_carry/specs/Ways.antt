@@ -5,10 +5,10 @@ use Rattle.application_types.specs.Generation.{Generated}
 use Rattle.laws_of_states.specs.Suits.{Suits}
 use Rattle.device_acts.specs.Stands.{identity_for}
 use Rattle.kdcfile_double.specs.Opening.{identity_twice, last_sequence}
-use Rattle.kdcfile_update.specs.Carrying.{carried}
-use Rattle.kdcfile_update.specs.Judging.{else_fault, judged}
-use Rattle.kdcfile_update.specs.declared.kd_update.error.UpdateError.{UpdateError}
-use Rattle.kdcfile_update.specs.declared.kd_update.error.UpdateError.TheVariants.{NotKdcfile, SmallerPool}
+use Rattle.kd_update.specs.Carrying.{carried}
+use Rattle.kd_update.specs.Judging.{else_fault, judged}
+use Rattle.kd_update.specs.declared.error.UpdateError.{UpdateError}
+use Rattle.kd_update.specs.declared.error.UpdateError.TheVariants.{NotKdcfile, SmallerPool}
 use Rattle.kdcfile_update.specs.Report.{is_same_print}
 use Rattle.carry_steps.specs.Deciding.{is_asked, next_sequence}
 use Rattle.kdcfile_carry.specs.Files.{AreFiles, Files}

@@ -5,11 +5,11 @@ use Rattle.kd_base.specs.OrderLaws.{equal_is_same}
 use Rattle.kd_base.specs.ToolsLaws.{not_both, true_both}
 use Rattle.kd_records.specs.Identity.{Identity}
 use Rattle.application_types.specs.Generation.{Generated}
-use Rattle.kdcfile_update.specs.Carrying.{carried}
-use Rattle.kdcfile_update.specs.Judging.{judged}
+use Rattle.kd_update.specs.Carrying.{carried}
+use Rattle.kd_update.specs.Judging.{judged}
 use Rattle.kdcfile_update.specs.Report.{is_same_print}
-use Rattle.kdcfile_update.specs.SuitingLaws.{carried_tables_suit}
-use Rattle.kdcfile_update.specs.declared.kd_update.error.UpdateError.{UpdateError}
+use Rattle.kd_update.specs.SuitingLaws.{carried_tables_suit}
+use Rattle.kd_update.specs.declared.error.UpdateError.{UpdateError}
 use Rattle.carry_steps.specs.Deciding.{is_asked, next_sequence}
 use Rattle.kdcfile_carry.specs.Files.{AreFiles, Files}
 use Rattle.kdcfile_carry.specs.Ways.{AreOwn, IsUpToDate, MayCarry, StopsAreTaken, carried_files, files_after, files_by, made_by, pool_by, room_by, then_judged}

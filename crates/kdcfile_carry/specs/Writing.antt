@@ -11,7 +11,7 @@ use Rattle.device_acts.specs.Stands.{identity_for}
 use Rattle.kdcfile_store.specs.Carried.{carry_most}
 use Rattle.kdcfile_store.specs.Paged.{made_length}
 use Rattle.kdcfile_copies.specs.Mending.{mending_most}
-use Rattle.kdcfile_update.specs.Carrying.{carried}
+use Rattle.kd_update.specs.Carrying.{carried}
 use Rattle.carry_steps.specs.Deciding.{next_sequence}
 use Rattle.kdcfile_carry.specs.Files.{AreFiles, Files}
 use Rattle.kdcfile_carry.specs.Keeping.{content_by}

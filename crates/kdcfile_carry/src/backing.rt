@@ -6,7 +6,7 @@ ghost use Rattle.laws_of_states.specs.Suits.{Suits};
 ghost use Rattle.kdcfile_store.specs.{Carried.{carry_most}, Kept.{IsKept}, Paged.{HasFile, made_length}};
 ghost use Rattle.device_acts.specs.Stands.{AreTables, StandsForTables, identity_for};
 ghost use Rattle.kdcfile_double.specs.{Twice.{FrameBoth, NoneRose}, MakingLaws.{RestsBoth}};
-ghost use Rattle.kdcfile_update.specs.declared.kd_update.error.UpdateError.{UpdateError as Cause};
+ghost use Rattle.kd_update.specs.declared.error.UpdateError.{UpdateError as Cause};
 ghost use Rattle.kdcfile_carry.specs.{Backing.{IsBackedUp, of_disk}, Doing.{RoseOnOne}, Files.{AreFiles, Files, HaveTwoMeanings}, Ways.{AreRefusedAs, AreSpent, MayCarry}, Writing.{WritesBackup, backup_most}};
 ghost use Rattle.kdcfile_carry.specs.declared.backing.BackUpError.TheVariants as errors;
 ghost use Rattle.kdcfile_carry.specs.declared.error.FilesError.{FilesError as FilesCause};

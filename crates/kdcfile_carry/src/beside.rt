@@ -5,7 +5,7 @@ ghost use Rattle.kd_records.specs.Identity.{Identity};
 ghost use Rattle.kdcs_types.specs.Tables.{TableRows};
 ghost use Rattle.kdcfile_copies.specs.Mending.{BeginsWith, mending_most};
 ghost use Rattle.kdcfile_double.specs.{Twice.{FrameBoth, RoseAt, SameFaultsAt}, Mended.{BothRest}};
-ghost use Rattle.kdcfile_update.specs.declared.kd_update.error.UpdateError.{UpdateError as Cause};
+ghost use Rattle.kd_update.specs.declared.error.UpdateError.{UpdateError as Cause};
 ghost use Rattle.kdcfile_carry.specs.{Keeping.{IsSource}, Leaving.{EachStands, StaysWithin}};
 
 use crate::error::FilesError;

@@ -3,8 +3,8 @@
 ghost use Rattle.std.specs.Prelude.{◌≡◌, ◌≤◌, ◌+◌, ℕ, IsTrue, IfOk, OnOk, IsErrOf, Some, is_some, false, true};
 ghost use Rattle.kd_device.specs.declared.half.Half.TheVariants.{First, Second};
 ghost use Rattle.kdcfile_double.specs.{Twice.{FrameBoth, NoneRose, RoseAt}, Mended.{BothRest}};
-ghost use Rattle.kdcfile_update.specs.Carrying.{carried};
-ghost use Rattle.kdcfile_update.specs.declared.kd_update.error.UpdateError.{UpdateError as Cause};
+ghost use Rattle.kd_update.specs.Carrying.{carried};
+ghost use Rattle.kd_update.specs.declared.error.UpdateError.{UpdateError as Cause};
 ghost use Rattle.record_codec.specs.Records.{content_of_tables};
 ghost use Rattle.carry_steps.specs.Deciding.{next_sequence, shuts_second};
 ghost use Rattle.kdcfile_carry.specs.{Doing.{AreEither, FailsAlone, IsOnFirst, IsReady, RoseOnOne}, Files.{AreFiles}, Keeping.{IsIn, IsKnown, IsSource, content_by, files_in}, Leaving.{EachStands, LeavesFiles, StaysWithin}, Promise.{WereAlike, lost_of}, Ways.{MayCarry, carried_files, made_with}, Writing.{Changes, MakesAlike, MendsFirst, Prepares, Shuts, WritesCarried, commit_most}};

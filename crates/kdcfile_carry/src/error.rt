@@ -5,7 +5,7 @@ ghost use Rattle.kdcfile_carry.specs.Causes.{of_device, of_judgement};
 
 use kd_base::OutOfMemory;
 use kd_device::DeviceError;
-use kdcfile_update::kd_update::UpdateError;
+use kd_update::UpdateError;
 use thiserror::Error;
 
 /// Why files were not carried to new texts.

@@ -2,7 +2,7 @@
 ghost use Rattle.std.specs.Prelude.{◌≡◌, ℕ, List, [], IsTrue, IfOk, IfSome, IfNone, IsErrOf};
 ghost use Rattle.application_types.specs.Generation.{Generated};
 ghost use Rattle.kdcfile_double.specs.{Twice.{FrameBoth, NoneRose}, MakingLaws.{RestsBoth}, Mended.{BothRest}};
-ghost use Rattle.kdcfile_update.specs.declared.kd_update.error.UpdateError.{UpdateError as Cause};
+ghost use Rattle.kd_update.specs.declared.error.UpdateError.{UpdateError as Cause};
 ghost use Rattle.kdcfile_carry.specs.{Doing.{AreEither, IsPlan, RoseOnOne}, Files.{AreFiles, Files, HaveTwoMeanings}, Keeping.{IsIn, IsKnown, files_in}, Leaving.{StaysWithin}, Losing.{MayLose, rows_gone}, Promise.{Fails, IsRefusal, IsSpent, Outcome, WouldBe}, Ways.{AreRefusedAs, AreSpent, IsTaken, IsUpToDate, carried_files, files_after}, Writing.{MakesAlike, MayBeCarried, WritesAtMost}};
 ghost use Rattle.kdcfile_carry.specs.declared.losing.Losses.{Losses as Loss};
 ghost use Rattle.kdcfile_carry.specs.declared.losing.Losses.TheVariants.{Refused};

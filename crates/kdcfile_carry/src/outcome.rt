@@ -1,7 +1,7 @@
 //! What became of files that were carried, and what would become of them.
 
 use kd_device::Half;
-use kdcfile_update::kd_update::Dropped;
+use kd_update::Dropped;
 use kdcs_types::Row;
 
 /// How two copies were made alike.

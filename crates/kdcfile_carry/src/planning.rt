@@ -1,6 +1,6 @@
 //! What is to become of files that were found, before anything is written.
 ghost use Rattle.std.specs.Prelude.{◌≡◌, ◌≤◌, ◌↔◌, ℕ, List, IsTrue, IfOk, IfSome, IfNone, IsErrOf, Ok, Err, Some, is_some, true};
-ghost use Rattle.kdcfile_update.specs.declared.kd_update.error.UpdateError.{UpdateError as Cause};
+ghost use Rattle.kd_update.specs.declared.error.UpdateError.{UpdateError as Cause};
 ghost use Rattle.kdcfile_double.specs.Opening.{last_sequence};
 ghost use Rattle.kdcfile_carry.specs.{Doing.{IsPlan}, Keeping.{IsKnown, files_in}, Promise.{IsRefusal, IsSpent, WouldBe}, Ways.{AreOwn, IsUpToDate, judgement}};
 
@@ -11,7 +11,7 @@ use crate::new_tables::{new_limits, new_sequence, new_tables};
 use crate::outcome::Would;
 use application_types::generation::Generation;
 use carry_steps::is_asked;
-use kdcfile_update::kd_update::{Dropped, UpdateError};
+use kd_update::{Dropped, UpdateError};
 use kdcs_types::Tables;
 use std::alloc::Global;
 use table_fit::suits;

@@ -20,9 +20,9 @@ use Rattle.table_fit.specs.LengthsLaws.{charges_are_those_of_the_bytes, lengths_
 use Rattle.table_fit.specs.ShortLaws.{suiting_tables_are_short}
 use Rattle.device_acts.specs.ContentLaws.{content_charged, content_there}
 use Rattle.device_acts.specs.Stands.{KeepsTables}
-use Rattle.kdcfile_update.specs.Carrying.{carried}
-use Rattle.kdcfile_update.specs.Judging.{judged}
-use Rattle.kdcfile_update.specs.SuitingLaws.{carried_tables_suit, passed_all}
+use Rattle.kd_update.specs.Carrying.{carried}
+use Rattle.kd_update.specs.Judging.{judged}
+use Rattle.kd_update.specs.SuitingLaws.{carried_tables_suit, passed_all}
 use Rattle.record_codec.specs.Records.{HasShortValues}
 use Rattle.kdcfile_update.specs.Parts.{CanCarry, stored_in}
 use Rattle.kdcfile_update.specs.Updating.{judgement}

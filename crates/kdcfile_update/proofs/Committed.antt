@@ -21,7 +21,7 @@ use Rattle.abstract_monitor.specs.Trace.{tables_after, bytes_of}
 use Rattle.record_codec.specs.Records.{content_of_tables}
 use Rattle.device_acts.specs.MeaningLaws.{kept_means}
 use Rattle.device_acts.specs.Stands.{KeepsTables, StandsForTables, identity_for, limits_of}
-use Rattle.kdcfile_update.specs.Carrying.{carried}
+use Rattle.kd_update.specs.Carrying.{carried}
 use Rattle.device_acts.specs.Acting.{IsCutOf, WithinActs, WritesUpTo}
 use Rattle.device_acts.specs.WritingLaws.{writes_after, writes_none}
 use Rattle.kdcfile_update.specs.Parts.{WithinUpdate, IsReported, stored_in}

@@ -1,8 +1,8 @@
 -- Which error came before one that was handed on.
 use Rattle.std.proofs.Common.{◌≡◌, refl, sym, ap, ◌∙◌, Result, Ok, Err}
 use Rattle.std.specs.Prelude.{List, ℕ, IsErrOf, IsErrAnd}
-use Rattle.kdcfile_update.specs.declared.kd_update.error.UpdateError.{UpdateError}
-use Rattle.kdcfile_update.specs.declared.kd_update.error.UpdateError.TheVariants as cause
+use Rattle.kd_update.specs.declared.error.UpdateError.{UpdateError}
+use Rattle.kd_update.specs.declared.error.UpdateError.TheVariants as cause
 use Rattle.device_acts.specs.declared.warm_start.error.OpenError.{OpenError}
 use Rattle.device_acts.specs.declared.warm_start.error.OpenError.TheVariants as opening
 use Rattle.kdcfile_update.specs.declared.error.CarryError.{CarryError}

@@ -13,7 +13,7 @@ use Rattle.laws_of_states.specs.Suits.{SuitsFrom}
 use Rattle.device_acts.specs.MeaningLaws.{one_meaning_of_tables}
 use Rattle.device_acts.specs.Opening.{HasNoTablesFor}
 use Rattle.device_acts.specs.Stands.{StandsForTables}
-use Rattle.kdcfile_update.specs.declared.kd_update.error.UpdateError.{UpdateError}
+use Rattle.kd_update.specs.declared.error.UpdateError.{UpdateError}
 use Rattle.device_acts.specs.Acting.{WritesUpTo}
 use Rattle.device_acts.specs.Said.{SameDisk}
 use Rattle.kdcfile_update.specs.Parts.{IsRefusedAs, IsUnsuited, WithinUpdate}

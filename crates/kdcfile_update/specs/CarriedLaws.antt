@@ -6,8 +6,8 @@ use Rattle.application_types.specs.Generation.{Generated}
 use Rattle.application_types.specs.Soundness.{AreLimits}
 use Rattle.laws_of_states.specs.Suits.{Suits}
 use Rattle.record_codec.specs.TableReadings.{AreProperTables}
-use Rattle.kdcfile_update.specs.Carrying.{refitted, carried, carried_row}
-use Rattle.kdcfile_update.specs.Judging.{judged}
+use Rattle.kd_update.specs.Carrying.{refitted, carried, carried_row}
+use Rattle.kd_update.specs.Judging.{judged}
 
 -- carried tables that may be carried suit
 abbrev pub CarriedTablesSuit : Type 0

@@ -12,7 +12,7 @@ use Rattle.application_types.specs.Generation.{Generated}
 use Rattle.abstract_monitor.specs.Bytes.{Bytes}
 use Rattle.abstract_monitor.specs.Endings.{is_durable}
 use Rattle.laws_of_states.specs.Suits.{gssb_suits, job_suits, service_suits, shown_suits, tls_suits, uls_suits}
-use Rattle.kdcfile_update.specs.declared.kd_update.carrying.Dropped.{Dropped}
+use Rattle.kd_update.specs.declared.carrying.Dropped.{Dropped}
 
 -- ---- the communication area
 

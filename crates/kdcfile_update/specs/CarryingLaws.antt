@@ -20,9 +20,9 @@ use Rattle.kdcs_types.specs.Tables.{TableRows, AreChanges, IsSortedTables, empty
 use Rattle.kdcs_types.specs.Tables.{tls_key, tls_row, uls_key, uls_row}
 use Rattle.application_types.specs.Generation.{Generated}
 use Rattle.laws_of_states.specs.Suits.{gssb_suits, job_suits, shown_suits, tls_suits, uls_suits}
-use Rattle.kdcfile_update.specs.Carrying.{carried, carried_row, service_stays, sets, with_kb}
-use Rattle.kdcfile_update.specs.CarriedLaws.{CarriedTablesStaySorted, RowsAreCarriedOneByOne}
-use Rattle.kdcfile_update.specs.SettingLaws.{all_set, are_changes, in_turn}
+use Rattle.kd_update.specs.Carrying.{carried, carried_row, service_stays, sets, with_kb}
+use Rattle.kd_update.specs.CarriedLaws.{CarriedTablesStaySorted, RowsAreCarriedOneByOne}
+use Rattle.kd_update.specs.SettingLaws.{all_set, are_changes, in_turn}
 
 -- ---- a list whose items are changed and then filtered
 

@@ -1,8 +1,8 @@
 -- How an error is handed on.
 use Rattle.kd_device.specs.declared.error.DeviceError.{DeviceError}
 use Rattle.kd_device.specs.declared.error.DeviceError.TheVariants as device
-use Rattle.kdcfile_update.specs.declared.kd_update.error.UpdateError.{UpdateError}
-use Rattle.kdcfile_update.specs.declared.kd_update.error.UpdateError.TheVariants as cause
+use Rattle.kd_update.specs.declared.error.UpdateError.{UpdateError}
+use Rattle.kd_update.specs.declared.error.UpdateError.TheVariants as cause
 use Rattle.device_acts.specs.declared.warm_start.error.OpenError.{OpenError}
 use Rattle.device_acts.specs.declared.warm_start.error.OpenError.TheVariants as opening
 use Rattle.kdcfile_update.specs.declared.error.CarryError.{CarryError}

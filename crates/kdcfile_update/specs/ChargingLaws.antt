@@ -23,8 +23,8 @@ use Rattle.laws_of_states.specs.Suits.{gssb_suits, job_suits, service_suits, sho
 use Rattle.table_fit.specs.Charging.{AreShort}
 use Rattle.table_fit.specs.ChargingLaws.{service_short}
 use Rattle.table_fit.specs.Suiting.{are_numbers_apart, are_numbers_in_range}
-use Rattle.kdcfile_update.specs.Carrying.{carried, service_stays, with_kb}
-use Rattle.kdcfile_update.specs.Judging.{are_of_a_kdcfile}
+use Rattle.kd_update.specs.Carrying.{carried, service_stays, with_kb}
+use Rattle.kd_update.specs.Judging.{are_of_a_kdcfile}
 
 -- ---- the number of rows
 

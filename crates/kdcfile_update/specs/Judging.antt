@@ -4,8 +4,8 @@ use Rattle.kdcs_types.specs.Tables.{TableRows}
 use Rattle.application_types.specs.Generation.{Generated}
 use Rattle.abstract_monitor.specs.Charges.{total_charge}
 use Rattle.table_fit.specs.Suiting.{are_numbers_apart, are_numbers_in_range}
-use Rattle.kdcfile_update.specs.declared.kd_update.error.UpdateError.{UpdateError}
-use Rattle.kdcfile_update.specs.declared.kd_update.error.UpdateError.TheVariants as cause
+use Rattle.kd_update.specs.declared.error.UpdateError.{UpdateError}
+use Rattle.kd_update.specs.declared.error.UpdateError.TheVariants as cause
 
 -- tables that a file with these limits may keep, whatever its generation says of their rows
 abbrev pub are_of_a_kdcfile : (blksize pgpool : ℕ) → TableRows → Bool

@@ -2,7 +2,7 @@
 use Rattle.std.specs.Prelude.{List, ℕ}
 use Rattle.application_types.specs.Generation.{Generated}
 use Rattle.application_types.specs.Soundness.{AreLimits}
-use Rattle.kdcfile_update.specs.Carrying.{carried}
+use Rattle.kd_update.specs.Carrying.{carried}
 use Rattle.kdcfile_update.specs.Updating.{Stored, Takes, TablesSuit}
 
 -- the tables that a file keeps after its update suit the generation

@@ -13,8 +13,8 @@ use Rattle.application_types.specs.Generation.{Generated}
 use Rattle.abstract_monitor.specs.Trace.{bytes_of}
 use Rattle.laws_of_states.specs.Suits.{SuitsFrom}
 use Rattle.device_acts.specs.Stands.{KeepsTables, StandsForTables}
-use Rattle.kdcfile_update.specs.declared.kd_update.error.UpdateError.{UpdateError}
-use Rattle.kdcfile_update.specs.declared.kd_update.error.UpdateError.TheVariants.{NotKdcfile}
+use Rattle.kd_update.specs.declared.error.UpdateError.{UpdateError}
+use Rattle.kd_update.specs.declared.error.UpdateError.TheVariants.{NotKdcfile}
 use Rattle.device_acts.specs.Acting.{WritesUpTo}
 use Rattle.device_acts.specs.Said.{SameDisk}
 use Rattle.kdcfile_update.specs.Updating.{Stored, IsUpToDate, IsTaken, IsUpdateCut, judgement, report_of, update_most}

@@ -13,8 +13,8 @@ use Rattle.abstract_monitor.specs.Bytes.{Bytes}
 use Rattle.laws_of_states.specs.Suits.{gssb_suits, job_suits, shown_suits, tls_suits, uls_suits}
 use Rattle.record_codec.specs.PatchesLaws.{all_rows, each_row}
 use Rattle.record_codec.specs.RowReadings.{IsProperRow}
-use Rattle.kdcfile_update.specs.Carrying.{carried, refitted, service_stays, with_kb}
-use Rattle.kdcfile_update.specs.CarriedLaws.{CarriedTablesStayProper}
+use Rattle.kd_update.specs.Carrying.{carried, refitted, service_stays, with_kb}
+use Rattle.kd_update.specs.CarriedLaws.{CarriedTablesStayProper}
 
 module _ {E : Type 0} (P : E → Type 0) (p : E → Bool) where
   each_kept : (f : E → E) → ((e : E) → P e → P (f e)) → (es : List E) → Each P es → Each P (filter p (map f es))

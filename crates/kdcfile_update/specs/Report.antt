@@ -6,8 +6,8 @@ use Rattle.kdcs_types.specs.declared.act.Act.{Act}
 use Rattle.kdcs_types.specs.declared.act.Act.TheVariants.{Emit}
 use Rattle.kdcs_types.specs.Tables.{TableRows}
 use Rattle.application_types.specs.Generation.{Generated}
-use Rattle.kdcfile_update.specs.Carrying.{carried, dropped}
-use Rattle.kdcfile_update.specs.declared.kd_update.carrying.Dropped.{Dropped}
+use Rattle.kd_update.specs.Carrying.{carried, dropped}
+use Rattle.kd_update.specs.declared.carrying.Dropped.{Dropped}
 
 -- APPLINAME
 abbrev pub update_line : List ℕ → List ℕ

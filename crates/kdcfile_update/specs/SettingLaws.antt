@@ -21,7 +21,7 @@ use Rattle.kdcs_types.specs.Keyed.{keyed, ascends, with_item}
 use Rattle.kdcs_types.specs.Tables.{TableRows, AreChanges, change_fits, change_key, gssb_key, gssb_row, job_key, job_row, row_fits, row_key, service_key, service_row, shown_key, shown_row, tls_key}
 use Rattle.kdcs_types.specs.Tables.{tls_row, uls_key, uls_row, with_changes}
 use Rattle.abstract_monitor.specs.Bytes.{Bytes}
-use Rattle.kdcfile_update.specs.Carrying.{sets}
+use Rattle.kd_update.specs.Carrying.{sets}
 
 -- ---- items of one list
 

@@ -25,11 +25,11 @@ use Rattle.abstract_monitor.specs.Charges.{total_charge}
 use Rattle.abstract_monitor.specs.Endings.{is_durable}
 use Rattle.laws_of_states.specs.Suits.{Suits, gssb_suits, job_suits, number_is_below, service_suits, shown_suits, tls_suits, uls_suits}
 use Rattle.table_fit.specs.Suiting.{are_numbers_apart, are_numbers_in_range}
-use Rattle.kdcfile_update.specs.declared.kd_update.error.UpdateError.{UpdateError}
-use Rattle.kdcfile_update.specs.Carrying.{carried, refitted, service_stays, with_kb}
-use Rattle.kdcfile_update.specs.CarryingLaws.{all_kept, filtered_all}
-use Rattle.kdcfile_update.specs.Judging.{are_of_a_kdcfile, else_fault, judged}
-use Rattle.kdcfile_update.specs.CarriedLaws.{CarriedTablesSuit, WhatSuitsStays}
+use Rattle.kd_update.specs.declared.error.UpdateError.{UpdateError}
+use Rattle.kd_update.specs.Carrying.{carried, refitted, service_stays, with_kb}
+use Rattle.kd_update.specs.CarryingLaws.{all_kept, filtered_all}
+use Rattle.kd_update.specs.Judging.{are_of_a_kdcfile, else_fault, judged}
+use Rattle.kd_update.specs.CarriedLaws.{CarriedTablesSuit, WhatSuitsStays}
 
 -- ---- what suits stays
 

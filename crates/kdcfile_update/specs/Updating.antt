@@ -11,10 +11,10 @@ use Rattle.record_codec.specs.Records.{content_of_tables}
 use Rattle.kdcfile_store.specs.Carried.{carry_most}
 use Rattle.device_acts.specs.Opening.{HasNoTablesFor}
 use Rattle.device_acts.specs.Stands.{AreTables, StandsForTables, identity_for}
-use Rattle.kdcfile_update.specs.Carrying.{carried}
-use Rattle.kdcfile_update.specs.Judging.{judged}
-use Rattle.kdcfile_update.specs.declared.kd_update.error.UpdateError.{UpdateError}
-use Rattle.kdcfile_update.specs.declared.kd_update.error.UpdateError.TheVariants.{NotKdcfile}
+use Rattle.kd_update.specs.Carrying.{carried}
+use Rattle.kd_update.specs.Judging.{judged}
+use Rattle.kd_update.specs.declared.error.UpdateError.{UpdateError}
+use Rattle.kd_update.specs.declared.error.UpdateError.TheVariants.{NotKdcfile}
 use Rattle.device_acts.specs.Acting.{IsCutOf, WritesUpTo}
 use Rattle.kdcfile_update.specs.Report.{is_same_print, report_by}
 

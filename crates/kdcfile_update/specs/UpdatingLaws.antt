@@ -8,11 +8,11 @@ use Rattle.laws_of_states.specs.Suits.{Suits, SuitsFrom}
 use Rattle.device_acts.specs.MeaningLaws.{one_meaning_of_tables}
 use Rattle.device_acts.specs.Opening.{HasNoTablesFor}
 use Rattle.device_acts.specs.Stands.{AreTables, StandsForTables}
-use Rattle.kdcfile_update.specs.Carrying.{carried}
-use Rattle.kdcfile_update.specs.CarryingLaws.{carried_sorted}
-use Rattle.kdcfile_update.specs.ProperLaws.{carried_proper}
-use Rattle.kdcfile_update.specs.SuitingLaws.{carried_tables_suit, what_suits_stays}
-use Rattle.kdcfile_update.specs.declared.kd_update.error.UpdateError.{UpdateError}
+use Rattle.kd_update.specs.Carrying.{carried}
+use Rattle.kd_update.specs.CarryingLaws.{carried_sorted}
+use Rattle.kd_update.specs.ProperLaws.{carried_proper}
+use Rattle.kd_update.specs.SuitingLaws.{carried_tables_suit, what_suits_stays}
+use Rattle.kd_update.specs.declared.error.UpdateError.{UpdateError}
 use Rattle.kdcfile_update.specs.Laws.{TakenTablesSuit}
 use Rattle.kdcfile_update.specs.Updating.{Stored, IsUpToDate, IsTaken, Takes, IsJudgedSo, RefusesAs, UpdateAnswersExcludeEachOther, judgement}
 

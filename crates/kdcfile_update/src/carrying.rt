@@ -4,13 +4,13 @@ ghost use Rattle.kd_device.specs.Device.{Rose, SameFaults};
 ghost use Rattle.kdcfile_store.specs.{Kept.{IsKept}, Paged.{HasFile}};
 ghost use Rattle.application_types.specs.Soundness.{AreLimits};
 ghost use Rattle.record_codec.specs.Records.{content_of_tables};
-ghost use Rattle.kdcfile_update.specs.Carrying.{carried, dropped};
-ghost use Rattle.kdcfile_update.specs.declared.kd_update.error.UpdateError.{UpdateError as Cause};
-ghost use Rattle.kdcfile_update.specs.declared.kd_update.error.UpdateError.TheVariants as cause;
+ghost use Rattle.kd_update.specs.Carrying.{carried, dropped};
+ghost use Rattle.kd_update.specs.declared.error.UpdateError.{UpdateError as Cause};
+ghost use Rattle.kd_update.specs.declared.error.UpdateError.TheVariants as cause;
 ghost use Rattle.kdcfile_update.specs.{Updating.{IsUpdated, MayCarry, judgement}, Parts.{CanCarry, IsOfOthers, IsOpened, WithinUpdate, stored_in}};
 
 use crate::error::CarryError;
-use crate::kd_update::{Dropped, carried, judge};
+use kd_update::{Dropped, carried, judge};
 use crate::report::carried_report;
 use crate::sending::send;
 use application_types::generation::Generation;

@@ -3,7 +3,7 @@ ghost use Rattle.std.specs.Prelude.{◌≡◌};
 ghost use Rattle.kdcfile_update.specs.declared.error.CarryError.TheVariants as errors;
 ghost use Rattle.kdcfile_update.specs.Causes.{of_device, of_judgement, of_open};
 
-use crate::kd_update::UpdateError;
+use kd_update::UpdateError;
 use device_acts::warm_start::OpenError;
 use kd_base::OutOfMemory;
 use kd_device::DeviceError;

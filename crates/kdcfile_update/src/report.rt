@@ -2,9 +2,9 @@
 ghost use Rattle.std.specs.Prelude.{◌≡◌, true, false, IfOk};
 ghost use Rattle.kdcfile_update.specs.Report.{dropped_line, report_by, update_line};
 ghost use Rattle.kdcs_types.specs.Tables.{TableRows};
-ghost use Rattle.kdcfile_update.specs.Carrying.{carried, dropped};
+ghost use Rattle.kd_update.specs.Carrying.{carried, dropped};
 
-use crate::kd_update::Dropped;
+use kd_update::Dropped;
 use application_types::generation::Generation;
 use kd_base::{Bytes, OutOfMemory};
 use kdcs_types::{Act, Acts};

@@ -2,15 +2,15 @@
 ghost use Rattle.std.specs.Prelude.{◌≡◌, ◌⊎◌, List, ℕ, IsTrue, OnOk, IsErrOf};
 ghost use Rattle.kd_device.specs.{Device.{Rose, Frame, LeavesOnly, SameFaults, SameNames, Only}, Rest.{Rests}};
 ghost use Rattle.kdcfile_store.specs.{Kept.{IsKept}, Paged.{HasFile}};
-ghost use Rattle.kdcfile_update.specs.declared.kd_update.error.UpdateError.{UpdateError as Cause};
-ghost use Rattle.kdcfile_update.specs.declared.kd_update.error.UpdateError.TheVariants as cause;
+ghost use Rattle.kd_update.specs.declared.error.UpdateError.{UpdateError as Cause};
+ghost use Rattle.kd_update.specs.declared.error.UpdateError.TheVariants as cause;
 ghost use Rattle.device_acts.specs.Said.{SameDisk};
 ghost use Rattle.kdcfile_update.specs.Updating.{Stored, IsTaken, IsUpToDate, IsUpdated, IsUpdateCut, RefusesAs, Takes, UpdateWrites};
 ghost use Rattle.kdcfile_update.specs.Parts.{IsOpened, IsRefusedAs, IsUnsuited, WithinUpdate, stored_in};
 
 use crate::carrying::carry_tables;
 use crate::error::CarryError;
-use crate::kd_update::UpdateError;
+use kd_update::UpdateError;
 use crate::report::up_to_date_report;
 use crate::sending::send;
 use application_types::generation::Generation;

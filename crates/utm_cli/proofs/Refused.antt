@@ -1,8 +1,8 @@
 -- A file is accepted, or refused for one reason; and how a reason is handed on.
 use Rattle.std.proofs.Common.{◌≡◌, inl, inr, ⊎_elim, ℕ, List, refl, sym, ap, subst, ◌∙◌}
 use Rattle.std.specs.Prelude.{Result, Err, IsErrAnd, IsErrOf}
-use Rattle.kdcfile_update.specs.declared.kd_update.error.UpdateError.{UpdateError}
-use Rattle.kdcfile_update.specs.declared.kd_update.error.UpdateError.TheVariants as cause
+use Rattle.kd_update.specs.declared.error.UpdateError.{UpdateError}
+use Rattle.kd_update.specs.declared.error.UpdateError.TheVariants as cause
 use Rattle.device_acts.specs.MeaningLaws.{answers_exclude_each_other}
 use Rattle.device_acts.specs.Opening.{HasOneAnswer, IsRefused, IsOfOtherTexts}
 use Rattle.device_acts.specs.declared.warm_start.error.OpenError.{OpenError}

@@ -7,14 +7,14 @@ use Rattle.kd_device.specs.TimeLaws.{leaves_weaker, leaves_then}
 use Rattle.kdcs_types.specs.Tables.{TableRows}
 use Rattle.application_types.specs.Generation.{Generated}
 use Rattle.abstract_monitor.specs.Trace.{bytes_of}
-use Rattle.kdcfile_update.specs.Carrying.{carried}
+use Rattle.kd_update.specs.Carrying.{carried}
 use Rattle.device_acts.specs.Stands.{StandsForTables}
 use Rattle.device_acts.specs.Acting.{commits_nothing}
 use Rattle.device_acts.specs.LinesLaws.{tables_same}
 use Rattle.device_acts.specs.Said.{SameDisk}
 use Rattle.kdcfile_update.specs.Report.{is_same_print, report_by}
 use Rattle.kdcfile_update.specs.Updating.{Stored, IsUpToDate, IsUpdated, IsUpdateCut, RefusesAs, UpdateWrites, report_of}
-use Rattle.kdcfile_update.specs.declared.kd_update.error.UpdateError.{UpdateError}
+use Rattle.kd_update.specs.declared.error.UpdateError.{UpdateError}
 use Rattle.call_parts.specs.declared.words.Word.{Word}
 use Rattle.call_parts.specs.declared.words.Word.TheVariants.{Update}
 use Rattle.call_parts.specs.Asking.{Errand}

@@ -5,8 +5,8 @@ use Rattle.kdcs_types.specs.declared.act.Act.TheVariants.{Emit}
 use Rattle.kdcs_types.specs.Tables.{TableRows, empty_tables}
 use Rattle.abstract_monitor.specs.Listing.{listing}
 use Rattle.abstract_monitor.specs.Trace.{trace}
-use Rattle.kdcfile_update.specs.Carrying.{carried}
-use Rattle.kdcfile_update.specs.declared.kd_update.error.UpdateError.TheVariants as cause
+use Rattle.kd_update.specs.Carrying.{carried}
+use Rattle.kd_update.specs.declared.error.UpdateError.TheVariants as cause
 use Rattle.kdcfile_update.specs.Updating.{Stored, Takes, RefusesAs, report_of as update_report}
 use Rattle.refusals.specs.declared.error.FileRefusal.{FileRefusal}
 use Rattle.refusals.specs.declared.error.FileRefusal.TheVariants.{NotKdcfile, OtherGeneration, OtherBlksize, SmallerPool, TooManyGssbs, TooLarge, SequenceSpent, TwoCopies, Differs}

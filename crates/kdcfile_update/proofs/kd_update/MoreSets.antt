@@ -7,7 +7,7 @@ use Rattle.std.specs.Prelude.{Option, Some, None}
 use Rattle.kdcs_types.specs.declared.act.Change.{Change}
 use Rattle.kdcs_types.specs.declared.act.Change.TheVariants.{Set}
 use Rattle.kdcs_types.specs.declared.act.Row.{Row}
-use Rattle.kdcfile_update.specs.Carrying.{sets}
+use Rattle.kd_update.specs.Carrying.{sets}
 
 module _ {E : Type 0} (row_of : E → Row) (becomes : Row → Option Row) (items : List E) (i : ℕ) (item : E) (within : i < length items) (read : item ≡ get_or items i item) where
   abbrev left : ℕ → List Row

@@ -3,7 +3,7 @@ ghost use Rattle.std.specs.Prelude.{◌≡◌, IfOk, OnOk, map, filter_map};
 ghost use Rattle.kdcs_types.specs.{declared.act.Row.{Row as RowIs}, Tables.{AreChanges, TableRows, empty_tables, gssb_row, tls_row, uls_row, service_row, job_row, shown_row, with_changes}};
 ghost use Rattle.kdcfile_update.specs.{Carrying.{carried, carried_row, dropped, service_stays, sets}, ChargingLaws.{HasNoMoreRows}};
 
-use crate::kd_update::refitting::with_kb;
+use crate::refitting::with_kb;
 use application_types::generation::Generation;
 use kd_base::{Bytes, Name, OutOfMemory};
 use kdcs_types::{Change, Changes, Job, JobValue, Row, RowChanges, Service, Tables};

@@ -1,6 +1,6 @@
 //! Why tables are not carried to a new generation.
 ghost use Rattle.std.specs.Prelude.{◌≡◌};
-ghost use Rattle.kdcfile_update.specs.declared.kd_update.error.UpdateError.TheVariants as errors;
+ghost use Rattle.kd_update.specs.declared.error.UpdateError.TheVariants as errors;
 
 use kd_base::OutOfMemory;
 use thiserror::Error;

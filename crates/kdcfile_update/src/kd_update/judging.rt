@@ -5,7 +5,7 @@ ghost use Rattle.abstract_monitor.specs.Charges.{total_charge};
 ghost use Rattle.table_fit.specs.Charging.{AreShort};
 ghost use Rattle.kdcfile_update.specs.{Carrying.{carried}, Judging.{are_of_a_kdcfile, judged, new_judged}};
 
-use crate::kd_update::error::UpdateError;
+use crate::error::UpdateError;
 use application_types::generation::Generation;
 use kdcs_types::Tables;
 use table_fit::{numbers_are_apart, numbers_suit, total_charge};

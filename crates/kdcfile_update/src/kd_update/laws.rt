@@ -1,5 +1,5 @@
 //! Laws on the definitions, which all crates above may cite. The functions do nothing.
-ghost use Rattle.kdcfile_update.specs.CarriedLaws.{CarriedTablesSuit, CarriedTablesStayProper, CarriedTablesStaySorted, RowsAreCarriedOneByOne, WhatSuitsStays, WorkedKbs};
+ghost use Rattle.kd_update.specs.CarriedLaws.{CarriedTablesSuit, CarriedTablesStayProper, CarriedTablesStaySorted, RowsAreCarriedOneByOne, WhatSuitsStays, WorkedKbs};
 
 /// Carried tables that may be carried suit the generation; they are in order and proper where the old ones are.
 pub fn carried_tables_suit()

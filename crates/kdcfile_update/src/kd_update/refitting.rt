@@ -1,7 +1,7 @@
 //! The communication area of a service, for another MAX KB.
 ghost use Rattle.std.specs.{Prelude.{◌≡◌, IfOk}, List.{list_all}};
 ghost use Rattle.kd_base.specs.Text.{is_space};
-ghost use Rattle.kdcfile_update.specs.Carrying.{refitted, with_kb};
+ghost use Rattle.kd_update.specs.Carrying.{refitted, with_kb};
 
 use application_types::generation::Generation;
 use kd_base::{Bytes, OutOfMemory};

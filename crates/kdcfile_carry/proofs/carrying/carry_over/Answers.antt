@@ -4,7 +4,7 @@ use Rattle.kd_device.specs.declared.half.Half.TheVariants.{First}
 use Rattle.record_codec.specs.Records.{content_of_tables}
 use Rattle.kdcfile_double.specs.MakingLaws.{frame_then, rose_then}
 use Rattle.kdcfile_double.specs.MendLaws.{copy_open, on_ok}
-use Rattle.kdcfile_update.specs.Carrying.{carried}
+use Rattle.kd_update.specs.Carrying.{carried}
 use Rattle.carry_steps.specs.Deciding.{next_sequence}
 use Rattle.kdcfile_carry.specs.Doing.{AreEither}
 use Rattle.kdcfile_carry.specs.Keeping.{IsSource, files_in}

@@ -4,7 +4,7 @@ use Rattle.kd_device.specs.TimeLaws.{faults_then, rose_either, told_after}
 use Rattle.device_acts.specs.Acting.{commits_nothing}
 use Rattle.device_acts.specs.ErrorsLaws.{no_error}
 use Rattle.device_acts.specs.Stands.{KeepsTables, identity_for}
-use Rattle.kdcfile_update.specs.Carrying.{carried}
+use Rattle.kd_update.specs.Carrying.{carried}
 use Rattle.kdcfile_update.specs.declared.error.CarryError.TheVariants.{Refused}
 use Rattle.kdcfile_update.specs.Parts.{WithinUpdate, stored_in}
 use Rattle.kdcfile_update.specs.Updating.{MayCarry}

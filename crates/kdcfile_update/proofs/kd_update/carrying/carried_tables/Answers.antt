@@ -6,10 +6,10 @@ use Rattle.kdcs_types.specs.declared.service.Service.{Service}
 use Rattle.kdcs_types.specs.Tables.{IsSortedTables, TableRows, empty_tables, gssb_row, job_row, service_row, shown_row, tls_row, uls_row, with_changes}
 use Rattle.application_types.specs.Generation.{Generated}
 use Rattle.abstract_monitor.specs.Bytes.{Bytes}
-use Rattle.kdcfile_update.specs.Carrying.{carried}
-use Rattle.kdcfile_update.specs.CarryingLaws.{all_left, are_all_changes, left}
-use Rattle.kdcfile_update.specs.SettingLaws.{in_turn}
-use Rattle.kdcfile_update.proofs.kd_update.carrying.carried_tables.Goals as goal
+use Rattle.kd_update.specs.Carrying.{carried}
+use Rattle.kd_update.specs.CarryingLaws.{all_left, are_all_changes, left}
+use Rattle.kd_update.specs.SettingLaws.{in_turn}
+use Rattle.kd_update.proofs.carrying.carried_tables.Goals as goal
 
 pub carry-requires : goal.carry-requires
 carry-requires c =

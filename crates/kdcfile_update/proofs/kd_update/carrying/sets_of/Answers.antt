@@ -1,8 +1,8 @@
 use Rattle.std.proofs.Common.{sym, ◌∙◌}
-use Rattle.kdcfile_update.specs.Carrying.{carried_row}
-use Rattle.kdcfile_update.proofs.kd_update.MoreSets.{goes, stays}
-use Rattle.kdcfile_update.proofs.kd_update.carrying.sets_of.Goals as goal
-use Rattle.kdcfile_update.proofs.kd_update.carrying.sets_of.Goals.{in-Some+in_ok-push, in_default}
+use Rattle.kd_update.specs.Carrying.{carried_row}
+use Rattle.kd_update.proofs.MoreSets.{goes, stays}
+use Rattle.kd_update.proofs.carrying.sets_of.Goals as goal
+use Rattle.kd_update.proofs.carrying.sets_of.Goals.{in-Some+in_ok-push, in_default}
 
 pub loop-item-preserved : goal.loop-item-preserved
 loop-item-preserved g c =

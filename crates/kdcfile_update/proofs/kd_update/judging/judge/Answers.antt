@@ -2,8 +2,8 @@ use Rattle.std.proofs.Common.{◌<◌, ◌^◌, arith, length, sym, subst, ◌�
 use Rattle.kdcs_types.specs.Tables.{TableRows}
 use Rattle.abstract_monitor.specs.Charges.{total_charge}
 use Rattle.table_fit.specs.Charging.{AreShort}
-use Rattle.kdcfile_update.specs.ChargingLaws.{charge_few, gssbs_few, short_still}
-use Rattle.kdcfile_update.proofs.kd_update.judging.judge.Goals as goal
+use Rattle.kd_update.specs.ChargingLaws.{charge_few, gssbs_few, short_still}
+use Rattle.kd_update.proofs.judging.judge.Goals as goal
 
 pub new_judged-requires-clause-short : goal.new_judged-requires-clause-short
 new_judged-requires-clause-short c = subst AreShort (sym c.requires.carried) (short_still c.args.generation.now c.args.old.now c.max-limits.ensures.sound.limits c.requires.short)

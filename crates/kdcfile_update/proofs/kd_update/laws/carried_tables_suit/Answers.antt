@@ -1,7 +1,7 @@
-use Rattle.kdcfile_update.specs.CarryingLaws.{carried_sorted}
-use Rattle.kdcfile_update.specs.ProperLaws.{carried_proper}
-use Rattle.kdcfile_update.specs.SuitingLaws.{carried_tables_suit}
-use Rattle.kdcfile_update.proofs.kd_update.laws.carried_tables_suit.Goals as goal
+use Rattle.kd_update.specs.CarryingLaws.{carried_sorted}
+use Rattle.kd_update.specs.ProperLaws.{carried_proper}
+use Rattle.kd_update.specs.SuitingLaws.{carried_tables_suit}
+use Rattle.kd_update.proofs.laws.carried_tables_suit.Goals as goal
 
 pub returns-clause-suit : goal.returns-clause-suit
 returns-clause-suit c = carried_tables_suit
