@@ -21,13 +21,14 @@ use Rattle.kdcfile_double.specs.Opening.{SameFiles, last_sequence}
 use Rattle.kdcfile_double.specs.Twice.{NoneRose, RoseAt, SameFaultsAt}
 use Rattle.kd_update.specs.declared.error.UpdateError.{UpdateError}
 use Rattle.kd_update.specs.declared.error.UpdateError.TheVariants as cause
+use Rattle.carry_steps.specs.Deciding.{next_sequence}
 use Rattle.kdcfile_carry.specs.Doing.{AreEither, FailsAlone}
 use Rattle.kdcfile_carry.specs.Files.{AreFiles, Files, HaveTwoMeanings}
 use Rattle.kdcfile_carry.specs.FilesLaws.{one_meaning_of_files, two_meanings_are_none}
 use Rattle.kdcfile_carry.specs.Leaving.{EachStands, StaysWithin}
 use Rattle.kdcfile_carry.specs.LeavingLaws.{rests_stay, stays_then}
 use Rattle.kdcfile_carry.specs.Promise.{StandNow}
-use Rattle.kdcfile_carry.specs.Ways.{AreOwn, AreRefusedAs, AreSpent, IsTaken, files_after, judgement, next_sequence}
+use Rattle.kdcfile_carry.specs.Ways.{AreOwn, AreRefusedAs, AreSpent, IsTaken, files_after, judgement}
 use Rattle.kdcfile_carry.specs.WaysLaws.{up_to_date_own}
 use Rattle.kdcfile_carry.specs.declared.error.FilesError.{FilesError}
 use Rattle.kdcfile_carry.specs.declared.error.FilesError.TheVariants as files

@@ -12,6 +12,7 @@ use Rattle.record_codec.specs.Records.{content_of_tables}
 use Rattle.device_acts.specs.Stands.{AreTables}
 use Rattle.kdcfile_layout.specs.Commit.{Either}
 use Rattle.kdcfile_layout.specs.Layout.{StandsFor}
+use Rattle.kdcfile_store.specs.Carried.{carry_most}
 use Rattle.kdcfile_store.specs.Kept.{IsKept}
 use Rattle.kdcfile_store.specs.Paged.{HasFile, Paged}
 use Rattle.kdcfile_copies.specs.Beside.{LeavesBeside, OtherStays, SameDisk, file_of}
@@ -22,6 +23,7 @@ use Rattle.kdcfile_double.specs.ChosenLaws.{copy_at_most}
 use Rattle.kdcfile_double.specs.Mended.{BothRest}
 use Rattle.kdcfile_double.specs.MendLaws.{copy_open}
 use Rattle.kdcfile_double.specs.Opening.{last_sequence}
+use Rattle.carry_steps.specs.Deciding.{next_sequence}
 use Rattle.kdcfile_carry.specs.declared.finding.Kept.{Kept}
 use Rattle.kd_update.specs.Carrying.{carried}
 use Rattle.kdcfile_carry.specs.Doing.{AreEither, IsOnFirst, IsReady}
@@ -32,7 +34,8 @@ use Rattle.kdcfile_carry.specs.KeepingLaws.{beside_next, first_files, first_is_s
 use Rattle.kdcfile_carry.specs.Leaving.{EachStands, LeavesFiles, StaysWithin}
 use Rattle.kdcfile_carry.specs.LeavingLaws.{HalfHas, half_stays, stays_weaker}
 use Rattle.kdcfile_carry.specs.Promise.{IsBehind}
-use Rattle.kdcfile_carry.specs.Ways.{carried_files, made_with, next_sequence}
+use Rattle.kdcfile_carry.specs.Writing.{IsOther, commit_most}
+use Rattle.kdcfile_carry.specs.Ways.{carried_files, made_with}
 
 -- where nothing is done, what is there stays
 pub stays_here : (P : List ℕ → List ℕ → Type 0) (b : Both) (lb : ℕ → List ℕ → List ℕ → List ℕ → Type 0) → BothRest b lb → P b.first.holds b.second.holds → StaysWithin P b b lb lb
@@ -103,6 +106,17 @@ is_behind k a is_in differs half is = λ n numbered copy. is_in.unlike differs n
     by : (n : ℕ) (h : Half) → IsCopyOf k.file.store.identity n (content_of_tables k.tables) (disk_of h a).holds → IsCopyOf k.file.store.identity n (content_of_tables k.tables) (file_of h a.first.holds a.second.holds)
     by n First copy = copy
     by n Second copy = copy
+
+-- two copies, of which this half is the other one
+module _ (k : Kept) (known : IsKnown k) (a : Both) (is_in : IsIn k a.first.holds a.second.holds) where
+  two_copies : (n : ℕ) → k.sequence ≡ Some n → is_some k.sequence ≡ true
+  two_copies n is = ap (λ (s : Option ℕ). is_some s) is
+
+  pub first_other : k.home ≡ Second → IsOther (files_in k) First a
+  first_other second = let n = numbered k known second in record { two = two_copies n.0 n.1; behind = λ m is copy. is_in.first_not second m is copy }
+
+  pub half_other : k.alike ≡ false → IsOther (files_in k) (other k.home) a
+  half_other differs = let n = not_alone k known differs in record { two = two_copies n.0 n.1; behind = is_behind k a is_in differs (other k.home) refl }
 
 -- where the other half is the same, each one stands
 pub alike_stands : (k : Kept) (a : Both) → IsIn k a.first.holds a.second.holds → IsTrue k.alike → EachStands k.file.store.identity k.tables k.sequence None a
@@ -216,6 +230,10 @@ module _ (g : Generated) (fingerprint : List ℕ) (k : Kept) (known : IsKnown k)
         first_rests = λ c d left. kept.at_rest c (d, left);
         second_rests = λ c d left. let was = stays d (c, left) in rest.second_rests was.0 d was.1 ∙ sym (ap (λ (x : Disk). x.holds) second);
       }
+
+-- how much the commit writes
+pub commit_is : (g : Generated) (fingerprint : List ℕ) (f : Files) (j : Identity) (y : Content) → j ≡ made_with g fingerprint → y ≡ content_by (next_sequence (is_some g.double) f.sequence) (content_of_tables (carried g f.tables)) → carry_most j y ≡ commit_most g fingerprint f
+commit_is g fingerprint f j y made content = ap (λ (i : Identity). carry_most i y) made ∙ ap (λ (x : Content). carry_most (made_with g fingerprint) x) content
 
 -- ---- what there is of two copies
 

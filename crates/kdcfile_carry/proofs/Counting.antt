@@ -102,6 +102,10 @@ as_chosen from k a b kept counted =
     subst (λ (i : Identity). IsChosen i from.copy.sequence (content_of_tables k.tables) a b) (ap (λ (s : Paged). s.identity) (sym kept.store))
     (subst (λ (x : Content). IsChosen from.copy.store.identity from.copy.sequence x a b) (ap (λ (s : Paged). bare s.content) (sym kept.store) ∙ kept.records) counted.chosen)
 
+-- a copy of a lesser sequence is another one
+below_not : (i : Identity) (n : ℕ) (t : TableRows) (a : List ℕ) → Below n a → IsCopyOf i n (content_of_tables t) a → ⊥
+below_not i n t a below copy = absurd (omega (arith, below i n (content_of_tables t) copy))
+
 -- the home of the copy that counts has it, and the other half stays behind
 source_at : (home : Half) (i : Identity) (n : ℕ) (t : TableRows) (a b : List ℕ) → AreTables t → IsCopyOf i n (content_of_tables t) (file_of home a b) → IsChosen i n (content_of_tables t) a b → (home ≡ Second → Below n a) → (home ≡ Second → StandsForNoTables a) → IsSource home i n t a b
 source_at First i n t a b tables copy chosen below none = record { tables = tables; copy = copy; behind = by chosen; none = copy_has_no_tables i n t a copy }
@@ -129,6 +133,7 @@ module _ (from : Counted) (k : Kept) (a b : List ℕ) (loaded : IsLoaded from.co
     files = subst (λ (s : Option ℕ). AreFilesBy k.file.store.identity k.tables s a b) (sym kept.sequence) (source_files k.home k.file.store.identity from.copy.sequence k.tables a b (source from.copy.sequence kept.sequence));
     has = there;
     source = source;
+    first_not = λ second n is copy. let numbered : from.copy.sequence ≡ n = some_is from.copy.sequence n (sym kept.sequence ∙ is) in below_not k.file.store.identity n k.tables a (subst (λ (m : ℕ). Below m a) numbered (counted.behind (sym kept.home ∙ second))) copy;
     alike = λ yes n is half. as_tables from k n (file_of half a b) kept is (counted.alike (subst IsTrue kept.alike yes) half);
     unlike = λ no n is copy. counted.unlike (sym kept.alike ∙ no) (subst (λ (h : Half). IsCopyOf from.copy.store.identity from.copy.sequence (bare from.copy.store.content) (file_of (other h) a b)) kept.home (as_counted from k n (file_of (other k.home) a b) kept is copy));
   }

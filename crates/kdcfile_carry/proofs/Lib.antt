@@ -8,4 +8,5 @@ pub mod Gone
 pub mod HalfUsed
 pub mod NewTables
 pub mod Shutting
+pub mod Sizes
 pub mod Steps

@@ -33,11 +33,12 @@ use Rattle.kdcfile_update.specs.Parts.{CanCarry}
 use Rattle.kd_update.specs.SuitingLaws.{Passed, carried_tables_suit, passed_all}
 use Rattle.kdcfile_update.specs.UpdatingLaws.{carried_are_tables}
 use Rattle.kd_update.specs.declared.error.UpdateError.{UpdateError}
+use Rattle.carry_steps.specs.Deciding.{next_sequence}
 use Rattle.kdcfile_carry.specs.declared.finding.Kept.{Kept}
 use Rattle.kdcfile_carry.specs.FilesLaws.{tables_are_bare}
 use Rattle.kdcfile_carry.specs.Keeping.{IsKnown, content_by, files_in}
 use Rattle.kdcfile_carry.specs.WaysLaws.{both_judged}
-use Rattle.kdcfile_carry.specs.Ways.{judgement, made_by, made_with, next_sequence, pool_by, room_by}
+use Rattle.kdcfile_carry.specs.Ways.{judgement, made_by, made_with, pool_by, room_by}
 
 -- ---- what files keep is short
 

@@ -1,22 +1,23 @@
 -- The second file is shut beside the first one, which has what was found.
-use Rattle.std.specs.Prelude.{◌≡◌, ◌⊎◌, ◌≤◌, ℕ, Bool, false, List, Option, Some, None}
-use Rattle.std.proofs.Common.{inl, inr, ⊎_elim, refl, sym, ap, subst, ◌∙◌}
-use Rattle.kd_device.specs.Twin.{Both, Disk, half_leaves, half_state}
+use Rattle.std.specs.Prelude.{◌≡◌, ◌⊎◌, ◌≤◌, ℕ, Bool, true, false, List, Option, Some, None}
+use Rattle.std.proofs.Common.{inl, inr, ⊎_elim, refl, sym, ap, subst}
+use Rattle.kd_device.specs.Twin.{Both, Disk}
 use Rattle.kd_device.specs.declared.half.Half.TheVariants.{First, Second}
 use Rattle.kdcfile_layout.specs.Gates.{IsShut}
-use Rattle.kdcfile_store.specs.Kept.{IsKept}
-use Rattle.kdcfile_copies.specs.Beside.{LeavesBeside, OtherStays, SameDisk}
+use Rattle.kdcfile_copies.specs.Beside.{SameDisk}
 use Rattle.kdcfile_copies.specs.Copies.{AtMost, IsNoCopy, with_sequence}
+use Rattle.kdcfile_copies.specs.Mending.{LeavesHalf}
 use Rattle.kdcfile_copies.specs.MendingLaws.{shut_means_nothing}
 use Rattle.kdcfile_double.specs.ChosenLaws.{below_at_most, none_is_below}
 use Rattle.kdcfile_double.specs.Mended.{BothRest}
+use Rattle.carry_steps.specs.Deciding.{shuts_second}
 use Rattle.kdcfile_carry.specs.declared.finding.Kept.{Kept}
 use Rattle.kdcfile_carry.specs.Doing.{IsOnFirst, IsReady}
 use Rattle.kdcfile_carry.specs.Files.{AreFiles, AreFilesBy}
 use Rattle.kdcfile_carry.specs.Keeping.{IsSource, files_in}
 use Rattle.kdcfile_carry.specs.KeepingLaws.{source_files}
-use Rattle.kdcfile_carry.specs.Leaving.{SameOrShut, StaysWithin}
-use Rattle.kdcfile_carry.specs.LeavingLaws.{HalfHas, half_stays, stays_weaker}
+use Rattle.kdcfile_carry.specs.Leaving.{StaysWithin}
+use Rattle.kdcfile_carry.specs.LeavingLaws.{HalfHas, copying_stays, stays_weaker}
 use Rattle.kdcfile_carry.proofs.Changing.{ready}
 
 shut_is_no_copy : (d : List ℕ) → IsShut d → IsNoCopy d
@@ -55,18 +56,22 @@ module _ (k : Kept) (a b : Both) (la lb : ℕ → List ℕ → List ℕ → List
       subst (λ (l : List ℕ). AreFiles (files_in k) l d) (sym same) (shut_beside k a.first.holds a.second.holds d is h.1).files
 
   pub shut_stays : ((c d out : List ℕ) → la a.moment c d out → out ≡ a.sent) → b.sent ≡ a.sent → ((t u : ℕ) (c d out : List ℕ) → t ≤ u → lb u c d out → lb t c d out)
-      → LeavesBeside Second a b la lb (SameOrShut a.second.holds a.sent) → StaysWithin (AreFiles (files_in k)) a b la lb
-  shut_stays sent_now same earlier beside = stays_weaker a b la lb (HalfHas Second a Left) (AreFiles (files_in k)) as_files (half_stays Second a b la lb rest sent_now Left (inl refl) same earlier beside)
+      → LeavesHalf Second a.first.holds Left a b la lb → StaysWithin (AreFiles (files_in k)) a b la lb
+  shut_stays sent_now same earlier left = stays_weaker a b la lb (HalfHas Second a Left) (AreFiles (files_in k)) as_files (copying_stays Second a b la lb rest sent_now Left (inl refl) same earlier left)
 
-  module _ (shut : IsKept IsShut (half_state Second b) (half_leaves Second lb)) (first : SameDisk First a b) (stays : OtherStays Second a b la lb) where
-    pub shut_ready : (double : Bool) → IsReady k double b.first.holds b.second.holds
-    shut_ready double =
-        let same : b.first.holds ≡ a.first.holds = ap (λ (x : Disk). x.holds) first in
-        subst (λ (l : List ℕ). IsReady k double l b.second.holds) (sym same)
-        (may_stay k a.first.holds b.second.holds double (shut_beside k a.first.holds a.second.holds b.second.holds is (inr shut.bytes)) (λ one n numbered. shut_is_no_copy b.second.holds shut.bytes))
+  pub shut_ready : (double : Bool) → IsShut b.second.holds → SameDisk First a b → IsReady k double b.first.holds b.second.holds
+  shut_ready double shut first =
+      let same : b.first.holds ≡ a.first.holds = ap (λ (x : Disk). x.holds) first in
+      subst (λ (l : List ℕ). IsReady k double l b.second.holds) (sym same)
+      (may_stay k a.first.holds b.second.holds double (shut_beside k a.first.holds a.second.holds b.second.holds is (inr shut)) (λ one n numbered. shut_is_no_copy b.second.holds shut))
 
-    pub shut_rest : BothRest b lb
-    shut_rest = record {
-      first_rests = λ c d left. let was = stays c (d, left) in rest.first_rests c was.0 was.1 ∙ sym (ap (λ (x : Disk). x.holds) first);
-      second_rests = λ c d left. shut.at_rest d (c, left);
-    }
+-- whether it is shut
+pub not_shut : (double : Bool) (s : Option ℕ) → shuts_second double s ≡ false → double ≡ false → (n : ℕ) → s ≡ Some n → ⊥
+not_shut true s stays one n is = absurd cc
+not_shut false None stays one n is = absurd cc
+not_shut false (Some m) stays one n is = absurd cc
+
+pub is_shut : (double : Bool) (s : Option ℕ) → shuts_second double s ≡ true → (double ≡ false) × ((n : ℕ) × (s ≡ Some n))
+is_shut double None shuts = absurd cc
+is_shut true (Some n) shuts = absurd cc
+is_shut false (Some n) shuts = (refl, (n, refl))

@@ -1,14 +1,16 @@
 -- Calls one after another: what they leave, and which of them failed.
-use Rattle.std.specs.Prelude.{◌≡◌, ℕ, List, Option, Some, None, Result, Ok, Err, IfOk}
-use Rattle.std.proofs.Common.{inl, inr, sym, subst, ◌∙◌}
-use Rattle.kd_device.specs.Twin.{Both, other}
+use Rattle.std.specs.Prelude.{◌≡◌, ℕ, IsTrue, List, Option, Some, None, Result, Ok, Err, IfOk}
+use Rattle.std.proofs.Common.{inl, inr, sym, ap, subst, ◌∙◌, arith}
+use Rattle.kd_device.specs.Twin.{Both, Disk, other}
 use Rattle.kd_device.specs.declared.half.Half.{Half}
 use Rattle.kd_device.specs.declared.half.Half.TheVariants.{First, Second}
 use Rattle.application_types.specs.Generation.{Generated}
 use Rattle.record_codec.specs.Records.{content_of_tables}
+use Rattle.kdcfile_copies.specs.Beside.{SameDisk}
 use Rattle.kdcfile_copies.specs.Copies.{IsCopyOf}
+use Rattle.kdcfile_copies.specs.Mending.{Goes}
 use Rattle.kdcfile_double.specs.MakingLaws.{RestsBoth, rests_then, rose_then}
-use Rattle.kdcfile_double.specs.Twice.{NoneRose, RoseAt, SameFaultsAt}
+use Rattle.kdcfile_double.specs.Twice.{FrameBoth, NoneRose, RoseAt, SameFaultsAt}
 use Rattle.kdcfile_carry.specs.declared.losing.Losses.{Losses}
 use Rattle.kdcfile_carry.specs.declared.outcome.Alike.{Alike}
 use Rattle.kdcfile_carry.specs.declared.outcome.Alike.TheVariants.{Already, Mended, Lost}
@@ -23,6 +25,23 @@ use Rattle.kdcfile_carry.specs.Promise.{Fails, IsBehind, Outcome, WereAlike, los
 module _ (a b : Both) (la lb : ℕ → List ℕ → List ℕ → List ℕ → Type 0) (rests : RestsBoth a b la lb) (P : List ℕ → List ℕ → Type 0) where
   pub as_after : P a.first.holds a.second.holds → P b.first.holds b.second.holds
   as_after h = subst (λ (x : List ℕ). P x b.second.holds) (sym rests.files.first_holds) (subst (λ (x : List ℕ). P a.first.holds x) (sym rests.files.second_holds) h)
+
+-- ---- calls on the second half alone
+
+pub second_frame : (a b : Both) → Goes Second a b → (IsTrue a.told → b.sent ≡ a.sent) → FrameBoth a b
+second_frame a b goes sent = record {
+  told = goes.told;
+  first_faults = goes.source_faults;
+  second_faults = goes.faults;
+  line_faults = let same = goes.line in omega (arith, same);
+  moment = goes.moment;
+  first_names = λ told. goes.source_names;
+  second_names = λ told. goes.names;
+  sent = sent;
+}
+
+pub second_fine : (a b : Both) → Goes Second a b → SameDisk First a b → b.second.disk_faults ≡ a.second.disk_faults → NoneRose a b
+second_fine a b goes same fine = record { first_same = ap (λ (x : Disk). x.disk_faults) same; second_same = fine; line_same = goes.line }
 
 -- ---- calls that failed
 

@@ -7,11 +7,12 @@ use Rattle.kd_device.specs.declared.half.Half.{Half}
 use Rattle.kd_device.specs.declared.half.Half.TheVariants.{First, Second}
 use Rattle.kdcfile_store.specs.Paged.{HasFile}
 use Rattle.kdcfile_double.specs.Twice.{RoseAt, SameFaultsAt}
+use Rattle.carry_steps.specs.Deciding.{next_sequence}
 use Rattle.kdcfile_carry.specs.declared.finding.Kept.{Kept}
 use Rattle.kdcfile_carry.specs.declared.planning.Plan.{Plan}
 use Rattle.kdcfile_carry.specs.Files.{AreFiles, Files}
 use Rattle.kdcfile_carry.specs.Keeping.{BesideBy, IsSource, files_in}
-use Rattle.kdcfile_carry.specs.Ways.{MayCarry, next_sequence}
+use Rattle.kdcfile_carry.specs.Ways.{MayCarry}
 
 -- what is to become of files that may be carried
 pub record IsPlan (g : Generated) (fingerprint : List ℕ) (f : Files) (p : Plan) : Type 0 where

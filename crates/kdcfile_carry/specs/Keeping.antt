@@ -2,7 +2,7 @@
 use Rattle.std.specs.Prelude.{◌≡◌, ◌<◌, ◌^◌, ℕ, false, IsTrue, List, Option, Some, None, IfSome}
 use Rattle.kd_device.specs.Twin.{other}
 use Rattle.kd_device.specs.declared.half.Half.{Half}
-use Rattle.kd_device.specs.declared.half.Half.TheVariants.{First}
+use Rattle.kd_device.specs.declared.half.Half.TheVariants.{First, Second}
 use Rattle.kd_records.specs.Contents.{IsContent}
 use Rattle.kd_records.specs.Identity.{Identity, IsIdentity}
 use Rattle.kd_records.specs.declared.content.Content.{Content}
@@ -52,5 +52,6 @@ pub record IsIn (k : Kept) (c d : List ℕ) : Type 0 where
   pub files : AreFiles (files_in k) c d
   pub has : HasFile k.file.store (file_of k.home c d)
   pub source : (n : ℕ) → k.sequence ≡ Some n → IsSource k.home k.file.store.identity n k.tables c d
+  pub first_not : k.home ≡ Second → (n : ℕ) → k.sequence ≡ Some n → IsCopyOf k.file.store.identity n (content_of_tables k.tables) c → ⊥
   pub alike : IsTrue k.alike → (n : ℕ) → k.sequence ≡ Some n → (half : Half) → IsCopyOf k.file.store.identity n (content_of_tables k.tables) (file_of half c d)
   pub unlike : k.alike ≡ false → (n : ℕ) → k.sequence ≡ Some n → IsCopyOf k.file.store.identity n (content_of_tables k.tables) (file_of (other k.home) c d) → ⊥

@@ -16,11 +16,11 @@ use Rattle.kdcfile_copies.specs.Mending.{IsMending}
 use Rattle.kdcfile_copies.specs.MendingLaws.{shut_means_nothing}
 use Rattle.kdcfile_double.specs.ChosenLaws.{at_most_next, below_at_most, none_is_below, second_chosen}
 use Rattle.kdcfile_double.specs.MendLaws.{copied, mending_behind}
+use Rattle.carry_steps.specs.Deciding.{next_sequence}
 use Rattle.kdcfile_carry.specs.Files.{AreFilesBy}
 use Rattle.kdcfile_carry.specs.FilesLaws.{copy_has_no_tables, tables_are_bare}
 use Rattle.kdcfile_carry.specs.Keeping.{BesideBy, IsSource, content_by}
 use Rattle.kdcfile_carry.specs.LeavingLaws.{HalfHas}
-use Rattle.kdcfile_carry.specs.Ways.{next_sequence}
 
 shut_has_no_tables : (c : List ℕ) → IsShut c → StandsForNoTables c
 shut_has_no_tables c shut i t stands = shut_means_nothing c shut i (content_of_tables t) stands.content

@@ -6,7 +6,6 @@ use Rattle.kd_records.specs.Identity.{Identity}
 use Rattle.kdcs_types.specs.Tables.{TableRows}
 use Rattle.record_codec.specs.Records.{content_of_tables}
 use Rattle.device_acts.specs.Stands.{StandsForTables}
-use Rattle.kdcfile_layout.specs.Gates.{IsShut}
 use Rattle.kdcfile_copies.specs.Beside.{LeavesPairs}
 use Rattle.kdcfile_copies.specs.Copies.{IsCopyOf, IsNoCopy}
 use Rattle.kdcfile_carry.specs.Files.{AreFiles, Files}
@@ -16,10 +15,6 @@ pub record StaysWithin (P : List ℕ → List ℕ → Type 0) (a b : Both) (la l
   pub sent : b.sent ≡ a.sent
   pub now : (c d : List ℕ) → lb b.moment c d b.sent → P c d
   pub leaves : LeavesPairs a b la lb (λ c d out. (out ≡ a.sent) × P c d)
-
--- nothing more was sent, and the file is as it was, or shut
-abbrev pub SameOrShut : (file sent c out : List ℕ) → Type 0
-SameOrShut file sent c out = (out ≡ sent) × ((c ≡ file) ⊎ IsShut c)
 
 -- a stop now leaves these files
 abbrev pub LeavesFiles : Files → Both → (ℕ → List ℕ → List ℕ → List ℕ → Type 0) → Type 0

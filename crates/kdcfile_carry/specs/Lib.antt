@@ -12,3 +12,5 @@ pub mod Losing
 pub mod Promise
 pub mod Ways
 pub mod WaysLaws
+pub mod Writing
+pub mod WritingLaws

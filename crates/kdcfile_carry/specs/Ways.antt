@@ -1,5 +1,5 @@
 -- Which files are carried to a new generation, and what they are then.
-use Rattle.std.specs.Prelude.{◌≡◌, ⊤, ◌⊎◌, ◌≤◌, ℕ, ◌+◌, ◌-◌, Bool, true, false, not, ◌&&◌, List, Option, Some, None, IfSome, is_some, nat_le, Result, Ok, Err}
+use Rattle.std.specs.Prelude.{◌≡◌, ⊤, ◌⊎◌, ◌≤◌, ℕ, ◌-◌, Bool, true, false, ◌&&◌, List, Option, Some, None, IfSome, is_some, nat_le, Result, Ok, Err}
 use Rattle.kd_records.specs.Identity.{Identity}
 use Rattle.application_types.specs.Generation.{Generated}
 use Rattle.laws_of_states.specs.Suits.{Suits}
@@ -10,6 +10,7 @@ use Rattle.kd_update.specs.Judging.{else_fault, judged}
 use Rattle.kd_update.specs.declared.error.UpdateError.{UpdateError}
 use Rattle.kd_update.specs.declared.error.UpdateError.TheVariants.{NotKdcfile, SmallerPool}
 use Rattle.kdcfile_update.specs.Report.{is_same_print}
+use Rattle.carry_steps.specs.Deciding.{is_asked, next_sequence}
 use Rattle.kdcfile_carry.specs.Files.{AreFiles, Files}
 
 -- ---- what files are made with
@@ -21,12 +22,6 @@ made_by false g fingerprint = identity_for g fingerprint
 
 abbrev pub made_with : Generated → (fingerprint : List ℕ) → Identity
 made_with g fingerprint = made_by (is_some g.double) g fingerprint
-
--- the sequence of the copy that is made: of the next one, or of the first one of an application that had one file
-abbrev pub next_sequence : (double : Bool) → Option ℕ → Option ℕ
-next_sequence false s = None
-next_sequence true None = Some 0
-next_sequence true (Some n) = Some (n + 1)
 
 -- the files of the carried tables
 abbrev pub carried_files : Generated → (fingerprint : List ℕ) → Files → Files
@@ -74,11 +69,6 @@ pub record MayCarry (g : Generated) (fingerprint : List ℕ) (f : Files) : Type 
 -- nothing is to be carried, or the tables may be carried
 abbrev pub IsTaken : Generated → (fingerprint : List ℕ) → Files → Type 0
 IsTaken g fingerprint f = IsUpToDate g fingerprint f ⊎ MayCarry g fingerprint f
-
--- two copies or a file by itself, as is asked
-abbrev pub is_asked : (double two : Bool) → Bool
-is_asked true two = two
-is_asked false two = not two
 
 -- what the files are after the call: the same where they are of these texts and of their shape
 abbrev pub files_by : (own : Bool) → Generated → (fingerprint : List ℕ) → Files → Files

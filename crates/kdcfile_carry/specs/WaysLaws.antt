@@ -10,8 +10,9 @@ use Rattle.kd_update.specs.Judging.{judged}
 use Rattle.kdcfile_update.specs.Report.{is_same_print}
 use Rattle.kd_update.specs.SuitingLaws.{carried_tables_suit}
 use Rattle.kd_update.specs.declared.error.UpdateError.{UpdateError}
+use Rattle.carry_steps.specs.Deciding.{is_asked, next_sequence}
 use Rattle.kdcfile_carry.specs.Files.{AreFiles, Files}
-use Rattle.kdcfile_carry.specs.Ways.{AreOwn, IsUpToDate, MayCarry, StopsAreTaken, carried_files, files_after, files_by, is_asked, made_by, next_sequence, pool_by, room_by, then_judged}
+use Rattle.kdcfile_carry.specs.Ways.{AreOwn, IsUpToDate, MayCarry, StopsAreTaken, carried_files, files_after, files_by, made_by, pool_by, room_by, then_judged}
 
 pub both_judged : (a b : Result ⊤ UpdateError) → then_judged a b ≡ Ok tt → (a ≡ Ok tt) × (b ≡ Ok tt)
 both_judged (Ok v) b h = (refl, h)

@@ -1,13 +1,13 @@
 //! What two files keep is written to an empty file, as a KDCFILE by itself, and read back.
-ghost use Rattle.std.specs.Prelude.{◌≡◌, ◌≤◌, ◌↔◌, ℕ, List, [], true, false, IsTrue, IfOk, OnOk, IsErrOf};
+ghost use Rattle.std.specs.Prelude.{◌≡◌, ◌⊎◌, ◌≤◌, ◌+◌, ◌↔◌, ℕ, List, [], true, false, IsTrue, IfOk, OnOk, IsErrOf};
 ghost use Rattle.kd_device.specs.{Device.{Rose, Frame, SameFaults, SameNames, Only}, Rest.{Rests}};
 ghost use Rattle.kd_records.specs.{Charge.{total_charge}, Contents.{IsContent}};
 ghost use Rattle.laws_of_states.specs.Suits.{Suits};
-ghost use Rattle.kdcfile_store.specs.{Kept.{IsKept}, Paged.{HasFile}};
+ghost use Rattle.kdcfile_store.specs.{Carried.{carry_most}, Kept.{IsKept}, Paged.{HasFile, made_length}};
 ghost use Rattle.device_acts.specs.Stands.{AreTables, StandsForTables, identity_for};
 ghost use Rattle.kdcfile_double.specs.{Twice.{FrameBoth, NoneRose}, MakingLaws.{RestsBoth}};
 ghost use Rattle.kd_update.specs.declared.error.UpdateError.{UpdateError as Cause};
-ghost use Rattle.kdcfile_carry.specs.{Backing.{IsBackedUp, of_disk}, Doing.{RoseOnOne}, Files.{AreFiles, Files, HaveTwoMeanings}, Ways.{AreRefusedAs, AreSpent, MayCarry}};
+ghost use Rattle.kdcfile_carry.specs.{Backing.{IsBackedUp, of_disk}, Doing.{RoseOnOne}, Files.{AreFiles, Files, HaveTwoMeanings}, Ways.{AreRefusedAs, AreSpent, MayCarry}, Writing.{WritesBackup, backup_most}};
 ghost use Rattle.kdcfile_carry.specs.declared.backing.BackUpError.TheVariants as errors;
 ghost use Rattle.kdcfile_carry.specs.declared.error.FilesError.{FilesError as FilesCause};
 
@@ -15,13 +15,13 @@ use crate::error::FilesError;
 use crate::finding::find;
 use crate::planning::planned;
 use application_types::generation::Generation;
+use carry_steps::is_empty;
 use device_acts::warm_start::limits_of;
 use kd_base::OutOfMemory;
 use kd_device::{Device, DeviceError, Twin};
 use kd_records::Content;
 use kdcfile_copies::LoadedCopy;
 use kdcfile_double::are_alike;
-use kdcfile_layout::bring_to_rest;
 use kdcfile_load::LoadError;
 use kdcfile_store::PagedStore;
 use kdcs_types::Tables;
@@ -78,21 +78,6 @@ impl From<DeviceError> for BackUpError {
     }
 }
 
-// Whether the file is empty. Nothing is pending then.
-fn is_empty<D: Device>(device: &mut D) -> Result<bool, DeviceError>
-    ensures value { IfOk result (λ is. IsTrue (D.state device.old).told → (is ≡ true → (D.state device.old).holds ≡ []) × (is ≡ false → (D.state device.old).holds ≡ [] → ⊥)) }
-    ensures at_rest { OnOk result (IsTrue (D.state device.old).told → Only (D.state device.new).holds (D.state device.new) (D.leaves device.new)) }
-    ensures rests { IsTrue (D.state device.old).told → Rests (D.state device.old) (D.state device.new) (D.leaves device.old) (D.leaves device.new) }
-    ensures failed { IsErrOf result DeviceError.Failed → Rose (D.state device.old).disk_faults (D.state device.new).disk_faults }
-    ensures fine { (IsErrOf result DeviceError.Failed → ⊥) → SameFaults (D.state device.old) (D.state device.new) }
-    ensures frame { Frame (D.state device.old) (D.state device.new) }
-    ensures names { SameNames (D.state device.old) (D.state device.new) }
-{
-    bring_to_rest(device)?;
-    let size = device.size()?;
-    Ok(size == 0)
-}
-
 // Makes the empty file, as these texts ask for one file, and keeps this content in it.
 fn write_content<D: Device>(
     alloc: Global,
@@ -109,6 +94,7 @@ fn write_content<D: Device>(
     ensures content { IfOk result (λ s. s.content ≡ content) }
     ensures kept { IfOk result (λ s. IsTrue (D.state device.old).told → IsKept (HasFile s) (D.state device.new) (D.leaves device.new)) }
     ensures sent { IsTrue (D.state device.old).told → (D.state device.new).sent ≡ (D.state device.old).sent }
+    ensures put_most { IsTrue (D.state device.old).told → (D.state device.new).put ≤ (D.state device.old).put + (made_length (identity_for generation.now fingerprint.now) + 1 + carry_most (identity_for generation.now fingerprint.now) content) }
     ensures failed { IsErrOf result DeviceError.Failed → Rose (D.state device.old).disk_faults (D.state device.new).disk_faults }
     ensures fine { (IsErrOf result DeviceError.Failed → ⊥) → SameFaults (D.state device.old) (D.state device.new) }
     ensures frame { Frame (D.state device.old) (D.state device.new) }
@@ -182,6 +168,7 @@ fn write_down<D: Device>(
     ensures differs { IsErrOf result BackUpError.Differs → IsTrue (D.state to.old).told → ⊥ }
     ensures told { (IsErrOf result BackUpError.OtherTexts → ⊥) × ((why : FilesCause) → IsErrOf result (BackUpError.Files why) → ⊥) }
     ensures sent { IsTrue (D.state to.old).told → (D.state to.new).sent ≡ (D.state to.old).sent }
+    ensures put_most { IsTrue (D.state to.old).told → ((D.state to.new).put ≡ (D.state to.old).put) ⊎ (((D.state to.old).holds ≡ []) × ((D.state to.new).put ≤ (D.state to.old).put + backup_most generation.now fingerprint.now tables.now)) }
     ensures failed { IsErrOf result BackUpError.Failed → Rose (D.state to.old).disk_faults (D.state to.new).disk_faults }
     ensures fine { (IsErrOf result BackUpError.Failed → ⊥) → SameFaults (D.state to.old) (D.state to.new) }
     ensures frame { Frame (D.state to.old) (D.state to.new) }
@@ -189,7 +176,8 @@ fn write_down<D: Device>(
 {
     let limits = generation.max();
     let _ = limits; // they have their ranges, so that values are short
-    if !is_empty(to)? {
+    let empty = is_empty(to)?;
+    if !empty {
         return Err(BackUpError::NotEmpty);
     }
     let content = records(alloc, tables)?;
@@ -220,6 +208,9 @@ pub fn back_up<T: Twin, D: Device>(
 
     // A file that is not empty stays as it is.
     ensures still { IsTrue (D.state to.old).told → ((D.state to.old).holds ≡ [] → ⊥) → (D.state to.new).holds ≡ (D.state to.old).holds }
+
+    // Whatever comes, no more is written than a new file and one commit.
+    ensures written { IsTrue (T.both twin.old).told → IsTrue (D.state to.old).told → WritesBackup generation.now fingerprint.now (T.both twin.old).first.holds (T.both twin.old).second.holds (D.state to.old) (D.state to.new) }
 
     ensures sent { IsTrue (D.state to.old).told → (D.state to.new).sent ≡ (D.state to.old).sent }
     ensures files_failed { IsErrOf result (BackUpError.Files FilesError.Failed) → RoseOnOne (T.both twin.old) (T.both twin.new) }

@@ -1,9 +1,9 @@
 //! The file beside the copy that counts is written anew from it.
-ghost use Rattle.std.specs.Prelude.{◌≡◌, ℕ, IsTrue, IfOk, IsErrOf, Some, None, get_or};
+ghost use Rattle.std.specs.Prelude.{◌≡◌, ◌≤◌, ◌+◌, ℕ, IsTrue, IfOk, IsErrOf, Some, None, get_or};
 ghost use Rattle.kd_device.specs.{Twin.{disk_of, other}, declared.half.Half.{Half as Side}};
 ghost use Rattle.kd_records.specs.Identity.{Identity};
 ghost use Rattle.kdcs_types.specs.Tables.{TableRows};
-ghost use Rattle.kdcfile_copies.specs.Mending.{BeginsWith};
+ghost use Rattle.kdcfile_copies.specs.Mending.{BeginsWith, mending_most};
 ghost use Rattle.kdcfile_double.specs.{Twice.{FrameBoth, RoseAt, SameFaultsAt}, Mended.{BothRest}};
 ghost use Rattle.kd_update.specs.declared.error.UpdateError.{UpdateError as Cause};
 ghost use Rattle.kdcfile_carry.specs.{Keeping.{IsSource}, Leaving.{EachStands, StaysWithin}};
@@ -36,6 +36,8 @@ pub(crate) fn write_anew<T: Twin>(
     ensures halves { IfOk result (λ lost. IsTrue (T.both twin.old).told → (i : Identity) (n : ℕ) (t : TableRows) → IsSource source i n t (T.both twin.old).first.holds (T.both twin.old).second.holds → EachStands i t (Some n) lost (T.both twin.new)) }
     ensures copied { IfOk result (λ lost. lost ≡ None → IsTrue (T.both twin.old).told → BeginsWith (disk_of source (T.both twin.old)).holds (disk_of (other source) (T.both twin.new)).holds) }
     ensures source_stays { IsTrue (T.both twin.old).told → (disk_of source (T.both twin.new)).holds ≡ (disk_of source (T.both twin.old)).holds }
+    ensures put_most { IsTrue (T.both twin.old).told → (disk_of (other source) (T.both twin.new)).put ≤ (disk_of (other source) (T.both twin.old)).put + mending_most (disk_of source (T.both twin.old)).holds }
+    ensures source_put { IsTrue (T.both twin.old).told → (disk_of source (T.both twin.new)).put ≡ (disk_of source (T.both twin.old)).put }
     ensures at_rest { IfOk result (λ lost. lost ≡ None → IsTrue (T.both twin.old).told → BothRest (T.both twin.new) (T.leaves twin.new)) }
     ensures lost { IfOk result (λ lost. (half : Side) → lost ≡ Some half → (half ≡ other source) × RoseAt half (T.both twin.old) (T.both twin.new)) }
     ensures fine { IfOk result (λ lost. (half : Side) → (lost ≡ Some half → ⊥) → SameFaultsAt half (T.both twin.old) (T.both twin.new)) }

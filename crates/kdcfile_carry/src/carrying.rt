@@ -1,12 +1,13 @@
 //! Two files are carried: the first one is changed at once, by one commit. A second copy is shut before, where the texts
 //! ask for one file, and else the second file is made alike afterwards.
-ghost use Rattle.std.specs.Prelude.{◌≡◌, ℕ, IsTrue, IfOk, OnOk, IsErrOf, Some, is_some, false, true};
+ghost use Rattle.std.specs.Prelude.{◌≡◌, ◌≤◌, ◌+◌, ℕ, IsTrue, IfOk, OnOk, IsErrOf, Some, is_some, false, true};
 ghost use Rattle.kd_device.specs.declared.half.Half.TheVariants.{First, Second};
 ghost use Rattle.kdcfile_double.specs.{Twice.{FrameBoth, NoneRose, RoseAt}, Mended.{BothRest}};
 ghost use Rattle.kd_update.specs.Carrying.{carried};
 ghost use Rattle.kd_update.specs.declared.error.UpdateError.{UpdateError as Cause};
 ghost use Rattle.record_codec.specs.Records.{content_of_tables};
-ghost use Rattle.kdcfile_carry.specs.{Doing.{AreEither, FailsAlone, IsOnFirst, IsReady, RoseOnOne}, Files.{AreFiles}, Keeping.{IsIn, IsKnown, IsSource, content_by, files_in}, Leaving.{EachStands, LeavesFiles, StaysWithin}, Promise.{WereAlike, lost_of}, Ways.{MayCarry, carried_files, made_with, next_sequence}};
+ghost use Rattle.carry_steps.specs.Deciding.{next_sequence, shuts_second};
+ghost use Rattle.kdcfile_carry.specs.{Doing.{AreEither, FailsAlone, IsOnFirst, IsReady, RoseOnOne}, Files.{AreFiles}, Keeping.{IsIn, IsKnown, IsSource, content_by, files_in}, Leaving.{EachStands, LeavesFiles, StaysWithin}, Promise.{WereAlike, lost_of}, Ways.{MayCarry, carried_files, made_with}, Writing.{Changes, MakesAlike, MendsFirst, Prepares, Shuts, WritesCarried, commit_most}};
 
 use crate::beside::{other, write_anew};
 use crate::error::FilesError;
@@ -16,6 +17,7 @@ use crate::gate::shut_second;
 use crate::new_tables::new_limits;
 use crate::outcome::Alike;
 use application_types::generation::Generation;
+use carry_steps::shuts_second;
 use kd_device::{Half, Twin};
 use kd_records::Content;
 use std::alloc::Global;
@@ -29,6 +31,7 @@ fn first_anew<T: Twin>(alloc: Global, twin: &mut T, kept: &Kept) -> Result<(), F
     ensures any_moment { IsTrue (T.both twin.old).told → StaysWithin (AreFiles (files_in kept.now)) (T.both twin.old) (T.both twin.new) (T.leaves twin.old) (T.leaves twin.new) }
     ensures on_first { OnOk result (IsTrue (T.both twin.old).told → IsOnFirst kept.now (T.both twin.new).first.holds (T.both twin.new).second.holds) }
     ensures at_rest { OnOk result (IsTrue (T.both twin.old).told → BothRest (T.both twin.new) (T.leaves twin.new)) }
+    ensures written { IsTrue (T.both twin.old).told → MendsFirst (files_in kept.now) (T.both twin.old) (T.both twin.new) }
     ensures told { (IsErrOf result FilesError.TwoMeanings → ⊥) × ((why : Cause) → IsErrOf result (FilesError.Refused why) → ⊥) × ((n : ℕ) → IsErrOf result (FilesError.Spent n) → ⊥) }
     ensures failed { IsErrOf result FilesError.Failed → RoseOnOne (T.both twin.old) (T.both twin.new) }
     ensures fine { OnOk result (NoneRose (T.both twin.old) (T.both twin.new)) }
@@ -49,6 +52,7 @@ fn first_counts<T: Twin>(alloc: Global, twin: &mut T, kept: &Kept) -> Result<(),
     ensures any_moment { IsTrue (T.both twin.old).told → StaysWithin (AreFiles (files_in kept.now)) (T.both twin.old) (T.both twin.new) (T.leaves twin.old) (T.leaves twin.new) }
     ensures on_first { OnOk result (IsTrue (T.both twin.old).told → IsOnFirst kept.now (T.both twin.new).first.holds (T.both twin.new).second.holds) }
     ensures at_rest { OnOk result (IsTrue (T.both twin.old).told → BothRest (T.both twin.new) (T.leaves twin.new)) }
+    ensures written { IsTrue (T.both twin.old).told → MendsFirst (files_in kept.now) (T.both twin.old) (T.both twin.new) }
     ensures told { (IsErrOf result FilesError.TwoMeanings → ⊥) × ((why : Cause) → IsErrOf result (FilesError.Refused why) → ⊥) × ((n : ℕ) → IsErrOf result (FilesError.Spent n) → ⊥) }
     ensures failed { IsErrOf result FilesError.Failed → RoseOnOne (T.both twin.old) (T.both twin.new) }
     ensures fine { OnOk result (NoneRose (T.both twin.old) (T.both twin.new)) }
@@ -60,11 +64,11 @@ fn first_counts<T: Twin>(alloc: Global, twin: &mut T, kept: &Kept) -> Result<(),
     }
 }
 
-// The second file may stay: it is no copy, or the texts ask for two.
-fn second_may_stay(generation: &Generation, kept: &Kept) -> bool
-    ensures { result ≡ true → is_some generation.now.double ≡ false → (n : ℕ) → kept.now.sequence ≡ Some n → ⊥ }
+// Whether the second file is a copy, and one file is asked for.
+fn shuts_copy(generation: &Generation, kept: &Kept) -> bool
+    ensures { result ≡ shuts_second (is_some generation.now.double) kept.now.sequence }
 {
-    generation.double().is_some() || kept.sequence.is_none()
+    shuts_second(generation.double().is_some(), kept.sequence)
 }
 
 // The second file is such that the first one, which has what was found, may be changed beside it: a copy is shut where the
@@ -75,12 +79,13 @@ fn make_ready<T: Twin>(twin: &mut T, generation: &Generation, kept: &Kept) -> Re
     ensures any_moment { IsTrue (T.both twin.old).told → StaysWithin (AreFiles (files_in kept.now)) (T.both twin.old) (T.both twin.new) (T.leaves twin.old) (T.leaves twin.new) }
     ensures ready { OnOk result (IsTrue (T.both twin.old).told → IsReady kept.now (is_some generation.now.double) (T.both twin.new).first.holds (T.both twin.new).second.holds) }
     ensures at_rest { OnOk result (IsTrue (T.both twin.old).told → BothRest (T.both twin.new) (T.leaves twin.new)) }
+    ensures written { IsTrue (T.both twin.old).told → Shuts (is_some generation.now.double) (files_in kept.now) (T.both twin.old) (T.both twin.new) }
     ensures told { (IsErrOf result FilesError.TwoMeanings → ⊥) × ((why : Cause) → IsErrOf result (FilesError.Refused why) → ⊥) × ((n : ℕ) → IsErrOf result (FilesError.Spent n) → ⊥) }
     ensures failed { IsErrOf result FilesError.Failed → RoseAt Second (T.both twin.old) (T.both twin.new) }
     ensures fine { OnOk result (NoneRose (T.both twin.old) (T.both twin.new)) }
     ensures frame { FrameBoth (T.both twin.old) (T.both twin.new) }
 {
-    if second_may_stay(generation, kept) {
+    if !shuts_copy(generation, kept) {
         return Ok(());
     }
     shut_second(twin)?;
@@ -100,6 +105,7 @@ fn prepare<T: Twin>(
     ensures any_moment { IsTrue (T.both twin.old).told → StaysWithin (AreFiles (files_in kept.now)) (T.both twin.old) (T.both twin.new) (T.leaves twin.old) (T.leaves twin.new) }
     ensures ready { OnOk result (IsTrue (T.both twin.old).told → IsReady kept.now (is_some generation.now.double) (T.both twin.new).first.holds (T.both twin.new).second.holds) }
     ensures at_rest { OnOk result (IsTrue (T.both twin.old).told → BothRest (T.both twin.new) (T.leaves twin.new)) }
+    ensures written { IsTrue (T.both twin.old).told → Prepares (is_some generation.now.double) (files_in kept.now) (T.both twin.old) (T.both twin.new) }
     ensures told { (IsErrOf result FilesError.TwoMeanings → ⊥) × ((why : Cause) → IsErrOf result (FilesError.Refused why) → ⊥) × ((n : ℕ) → IsErrOf result (FilesError.Spent n) → ⊥) }
     ensures failed { IsErrOf result FilesError.Failed → RoseOnOne (T.both twin.old) (T.both twin.new) }
     ensures fine { OnOk result (NoneRose (T.both twin.old) (T.both twin.new)) }
@@ -127,6 +133,8 @@ fn change<T: Twin>(
     ensures files { OnOk result (IsTrue (T.both twin.old).told → AreFiles (carried_files generation.now fingerprint.now (files_in kept.old)) (T.both twin.new).first.holds (T.both twin.new).second.holds) }
     ensures source { OnOk result (IsTrue (T.both twin.old).told → (n : ℕ) → next_sequence (is_some generation.now.double) kept.old.sequence ≡ Some n → IsSource First (made_with generation.now fingerprint.now) n (carried generation.now kept.old.tables) (T.both twin.new).first.holds (T.both twin.new).second.holds) }
     ensures at_rest { OnOk result (IsTrue (T.both twin.old).told → BothRest (T.both twin.new) (T.leaves twin.new)) }
+    ensures put_most { IsTrue (T.both twin.old).told → (T.both twin.new).first.put ≤ (T.both twin.old).first.put + commit_most generation.now fingerprint.now (files_in kept.old) }
+    ensures other_put { IsTrue (T.both twin.old).told → (T.both twin.new).second.put ≡ (T.both twin.old).second.put }
     ensures told { (IsErrOf result FilesError.TwoMeanings → ⊥) × ((why : Cause) → IsErrOf result (FilesError.Refused why) → ⊥) × ((n : ℕ) → IsErrOf result (FilesError.Spent n) → ⊥) }
     ensures failed { IsErrOf result FilesError.Failed → RoseAt First (T.both twin.old) (T.both twin.new) }
     ensures fine { OnOk result (NoneRose (T.both twin.old) (T.both twin.new)) }
@@ -162,6 +170,7 @@ fn change_first<T: Twin>(
     ensures files { OnOk result (IsTrue (T.both twin.old).told → AreFiles (carried_files generation.now fingerprint.now (files_in kept.old)) (T.both twin.new).first.holds (T.both twin.new).second.holds) }
     ensures source { OnOk result (IsTrue (T.both twin.old).told → (n : ℕ) → next_sequence (is_some generation.now.double) kept.old.sequence ≡ Some n → IsSource First (made_with generation.now fingerprint.now) n (carried generation.now kept.old.tables) (T.both twin.new).first.holds (T.both twin.new).second.holds) }
     ensures at_rest { OnOk result (IsTrue (T.both twin.old).told → BothRest (T.both twin.new) (T.leaves twin.new)) }
+    ensures written { IsTrue (T.both twin.old).told → Changes generation.now fingerprint.now (files_in kept.old) (T.both twin.old) (T.both twin.new) }
     ensures told { (IsErrOf result FilesError.TwoMeanings → ⊥) × ((why : Cause) → IsErrOf result (FilesError.Refused why) → ⊥) × ((n : ℕ) → IsErrOf result (FilesError.Spent n) → ⊥) }
     ensures failed { IsErrOf result FilesError.Failed → RoseOnOne (T.both twin.old) (T.both twin.new) }
     ensures fine { OnOk result (NoneRose (T.both twin.old) (T.both twin.new)) }
@@ -189,6 +198,7 @@ pub(crate) fn carry_over<T: Twin>(
     ensures any_moment { IsTrue (T.both twin.old).told → StaysWithin (AreEither (files_in kept.old) (carried_files generation.now fingerprint.now (files_in kept.old))) (T.both twin.old) (T.both twin.new) (T.leaves twin.old) (T.leaves twin.new) }
     ensures now { OnOk result (IsTrue (T.both twin.old).told → LeavesFiles (carried_files generation.now fingerprint.now (files_in kept.old)) (T.both twin.new) (T.leaves twin.new)) }
     ensures halves { IfOk result (λ lost. IsTrue (T.both twin.old).told → EachStands (made_with generation.now fingerprint.now) (carried generation.now kept.old.tables) (next_sequence (is_some generation.now.double) kept.old.sequence) lost (T.both twin.new)) }
+    ensures written { IsTrue (T.both twin.old).told → WritesCarried generation.now fingerprint.now (files_in kept.old) (T.both twin.old) (T.both twin.new) }
     ensures told { (IsErrOf result FilesError.TwoMeanings → ⊥) × ((why : Cause) → IsErrOf result (FilesError.Refused why) → ⊥) × ((n : ℕ) → IsErrOf result (FilesError.Spent n) → ⊥) }
     ensures failed { IsErrOf result FilesError.Failed → RoseOnOne (T.both twin.old) (T.both twin.new) }
     ensures fine { IfOk result (λ lost. FailsAlone lost (T.both twin.old) (T.both twin.new)) }
@@ -213,6 +223,7 @@ pub(crate) fn make_alike<T: Twin>(
     ensures any_moment { IsTrue (T.both twin.old).told → StaysWithin (AreFiles (files_in kept.now)) (T.both twin.old) (T.both twin.new) (T.leaves twin.old) (T.leaves twin.new) }
     ensures halves { IfOk result (λ alike. IsTrue (T.both twin.old).told → EachStands kept.now.file.store.identity kept.now.tables kept.now.sequence (lost_of alike) (T.both twin.new)) }
     ensures were { IfOk result (λ alike. IsTrue (T.both twin.old).told → WereAlike (files_in kept.now) alike (T.both twin.old) (T.both twin.new) (T.leaves twin.old) (T.leaves twin.new)) }
+    ensures written { IsTrue (T.both twin.old).told → MakesAlike (files_in kept.now) (T.both twin.old) (T.both twin.new) }
     ensures told { (IsErrOf result FilesError.TwoMeanings → ⊥) × ((why : Cause) → IsErrOf result (FilesError.Refused why) → ⊥) × ((n : ℕ) → IsErrOf result (FilesError.Spent n) → ⊥) }
     ensures failed { IsErrOf result FilesError.Failed → RoseOnOne (T.both twin.old) (T.both twin.new) }
     ensures fine { IfOk result (λ alike. FailsAlone (lost_of alike) (T.both twin.old) (T.both twin.new)) }

@@ -3,7 +3,7 @@ ghost use Rattle.std.specs.Prelude.{◌≡◌, ℕ, List, [], IsTrue, IfOk, IfSo
 ghost use Rattle.application_types.specs.Generation.{Generated};
 ghost use Rattle.kdcfile_double.specs.{Twice.{FrameBoth, NoneRose}, MakingLaws.{RestsBoth}, Mended.{BothRest}};
 ghost use Rattle.kd_update.specs.declared.error.UpdateError.{UpdateError as Cause};
-ghost use Rattle.kdcfile_carry.specs.{Doing.{AreEither, IsPlan, RoseOnOne}, Files.{AreFiles, Files, HaveTwoMeanings}, Keeping.{IsIn, IsKnown, files_in}, Leaving.{StaysWithin}, Losing.{rows_gone}, Promise.{Fails, IsRefusal, IsSpent, Outcome, WouldBe}, Ways.{AreRefusedAs, AreSpent, IsTaken, IsUpToDate, carried_files, files_after}};
+ghost use Rattle.kdcfile_carry.specs.{Doing.{AreEither, IsPlan, RoseOnOne}, Files.{AreFiles, Files, HaveTwoMeanings}, Keeping.{IsIn, IsKnown, files_in}, Leaving.{StaysWithin}, Losing.{MayLose, rows_gone}, Promise.{Fails, IsRefusal, IsSpent, Outcome, WouldBe}, Ways.{AreRefusedAs, AreSpent, IsTaken, IsUpToDate, carried_files, files_after}, Writing.{MakesAlike, MayBeCarried, WritesAtMost}};
 ghost use Rattle.kdcfile_carry.specs.declared.losing.Losses.{Losses as Loss};
 ghost use Rattle.kdcfile_carry.specs.declared.losing.Losses.TheVariants.{Refused};
 
@@ -58,6 +58,7 @@ fn carry_planned<T: Twin>(
     requires at_rest { IsTrue (T.both twin.old).told → BothRest (T.both twin.old) (T.leaves twin.old) }
     ensures done { IfOk result (λ o. IsTrue (T.both twin.old).told → Outcome generation.now fingerprint.now losses (files_in kept.old) o (T.both twin.old) (T.both twin.new) (T.leaves twin.old) (T.leaves twin.new)) }
     ensures any_moment { IsTrue (T.both twin.old).told → StaysWithin (AreEither (files_in kept.old) (carried_files generation.now fingerprint.now (files_in kept.old))) (T.both twin.old) (T.both twin.new) (T.leaves twin.old) (T.leaves twin.new) }
+    ensures written { IsTrue (T.both twin.old).told → MayBeCarried generation.now fingerprint.now (MayLose generation.now losses) (files_in kept.old) (T.both twin.old) (T.both twin.new) }
     ensures told { (IsErrOf result FilesError.TwoMeanings → ⊥) × ((why : Cause) → IsErrOf result (FilesError.Refused why) → ⊥) × ((n : ℕ) → IsErrOf result (FilesError.Spent n) → ⊥) }
     ensures failed { IsErrOf result FilesError.Failed → RoseOnOne (T.both twin.old) (T.both twin.new) }
     ensures fine { IfOk result (λ o. Fails o (T.both twin.old) (T.both twin.new)) }
@@ -78,6 +79,7 @@ fn keep_files<T: Twin>(alloc: Global, twin: &mut T, kept: &Kept) -> Result<Carri
     requires at_rest { IsTrue (T.both twin.old).told → BothRest (T.both twin.old) (T.leaves twin.old) }
     ensures done { (g : Generated) (fingerprint : List ℕ) (losses : Loss) → IsUpToDate g fingerprint (files_in kept.now) → IfOk result (λ o. IsTrue (T.both twin.old).told → Outcome g fingerprint losses (files_in kept.now) o (T.both twin.old) (T.both twin.new) (T.leaves twin.old) (T.leaves twin.new)) }
     ensures any_moment { IsTrue (T.both twin.old).told → StaysWithin (AreFiles (files_in kept.now)) (T.both twin.old) (T.both twin.new) (T.leaves twin.old) (T.leaves twin.new) }
+    ensures written { IsTrue (T.both twin.old).told → MakesAlike (files_in kept.now) (T.both twin.old) (T.both twin.new) }
     ensures told { (IsErrOf result FilesError.TwoMeanings → ⊥) × ((why : Cause) → IsErrOf result (FilesError.Refused why) → ⊥) × ((n : ℕ) → IsErrOf result (FilesError.Spent n) → ⊥) }
     ensures failed { IsErrOf result FilesError.Failed → RoseOnOne (T.both twin.old) (T.both twin.new) }
     ensures fine { IfOk result (λ o. Fails o (T.both twin.old) (T.both twin.new)) }
@@ -101,6 +103,7 @@ fn carry_kept<T: Twin>(
     requires at_rest { IsTrue (T.both twin.old).told → BothRest (T.both twin.old) (T.leaves twin.old) }
     ensures done { IfOk result (λ o. IsTrue (T.both twin.old).told → Outcome generation.now fingerprint.now losses (files_in kept.old) o (T.both twin.old) (T.both twin.new) (T.leaves twin.old) (T.leaves twin.new)) }
     ensures any_moment { IsTrue (T.both twin.old).told → StaysWithin (AreEither (files_in kept.old) (files_after generation.now fingerprint.now (files_in kept.old))) (T.both twin.old) (T.both twin.new) (T.leaves twin.old) (T.leaves twin.new) }
+    ensures written { IsTrue (T.both twin.old).told → WritesAtMost generation.now fingerprint.now (MayLose generation.now losses) (T.both twin.old) (T.both twin.new) }
     ensures refused { (why : Cause) → IsErrOf result (FilesError.Refused why) → IsRefusal generation.now fingerprint.now (files_in kept.old) why }
     ensures spent { (n : ℕ) → IsErrOf result (FilesError.Spent n) → IsSpent generation.now fingerprint.now (files_in kept.old) n }
     ensures two { IsErrOf result FilesError.TwoMeanings → ⊥ }
@@ -136,6 +139,9 @@ pub fn carry_files<T: Twin>(
 
     // A stop at any moment of the call leaves the old files, or those of the carried tables, and nothing more was sent.
     ensures any_moment { IsTrue (T.both twin.old).told → BothRest (T.both twin.old) (T.leaves twin.old) → (f : Files) → AreFiles f (T.both twin.old).first.holds (T.both twin.old).second.holds → StaysWithin (AreEither f (files_after generation.now fingerprint.now f)) (T.both twin.old) (T.both twin.new) (T.leaves twin.old) (T.leaves twin.new) }
+
+    // Whatever comes, no more is written than one commit, and what makes a half a copy of the other one, or shuts it.
+    ensures written { IsTrue (T.both twin.old).told → WritesAtMost generation.now fingerprint.now (MayLose generation.now losses) (T.both twin.old) (T.both twin.new) }
 
     ensures refused { (why : Cause) → IsErrOf result (FilesError.Refused why) → IsTrue (T.both twin.old).told → AreRefusedAs generation.now fingerprint.now (T.both twin.old).first.holds (T.both twin.old).second.holds why }
     ensures two { IsErrOf result FilesError.TwoMeanings → IsTrue (T.both twin.old).told → HaveTwoMeanings (T.both twin.old).first.holds (T.both twin.old).second.holds }

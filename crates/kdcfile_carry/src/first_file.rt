@@ -1,11 +1,11 @@
 //! The first file of two is opened, whatever its texts are, or keeps another content.
-ghost use Rattle.std.specs.Prelude.{◌≡◌, ◌≤◌, ℕ, List, IsTrue, IfOk, OnOk, OnErr, IsErrOf};
+ghost use Rattle.std.specs.Prelude.{◌≡◌, ◌≤◌, ◌+◌, ℕ, List, IsTrue, IfOk, OnOk, OnErr, IsErrOf};
 ghost use Rattle.kd_device.specs.{Device.{Rose, Frame, SameFaults, SameNames}, Rest.{Rests}};
 ghost use Rattle.kd_device.specs.{Twin.{half_state, half_leaves, disk_of}, Apart.{IsSince}};
 ghost use Rattle.kd_device.specs.declared.half.Half.TheVariants.{First, Second};
 ghost use Rattle.kd_records.specs.{Charge.{total_charge}, Contents.{IsContent}, Identity.{IsIdentity}};
 ghost use Rattle.kdcfile_layout.specs.Commit.{Either};
-ghost use Rattle.kdcfile_store.specs.{Carried.{LeavesCarried}, Kept.{IsKept}, Paged.{HasFile, identity_with}};
+ghost use Rattle.kdcfile_store.specs.{Carried.{LeavesCarried, carry_most}, Kept.{IsKept}, Paged.{HasFile, identity_with}};
 ghost use Rattle.kdcfile_copies.specs.Beside.{SameDisk, LeavesBeside, NoMore, OtherStays};
 ghost use Rattle.device_acts.specs.Stands.{KeepsTables, StandsForNoTables, StandsForTables};
 ghost use Rattle.kdcfile_double.specs.{Twice.{FrameBoth, NoneRose, RoseAt}, MakingLaws.{RestsBoth}, Mended.{BothRest}};
@@ -88,6 +88,7 @@ fn replace_on<T: Twin, O: HalfOrigin>(
     ensures kept { OnOk result.1 (IsTrue (T.both twin).told → IsKept (HasFile store.new) (half_state O.half (T.both result.0)) (half_leaves O.half (T.leaves result.0))) }
     ensures sent { IsTrue (T.both twin).told → (T.both result.0).sent ≡ (T.both twin).sent }
     ensures any_moment { IsTrue (T.both twin).told → LeavesCarried store.old.identity store.old.content (identity_with limits.now fingerprint.now) content (half_state O.half (T.both twin)) (half_state O.half (T.both result.0)) (half_leaves O.half (T.leaves twin)) (half_leaves O.half (T.leaves result.0)) }
+    ensures put_most { IsTrue (T.both twin).told → (half_state O.half (T.both result.0)).put ≤ (half_state O.half (T.both twin)).put + carry_most (identity_with limits.now fingerprint.now) content }
     ensures failed { IsErrOf result.1 DeviceError.Failed → Rose (half_state O.half (T.both twin)).disk_faults (half_state O.half (T.both result.0)).disk_faults }
     ensures fine { (IsErrOf result.1 DeviceError.Failed → ⊥) → SameFaults (half_state O.half (T.both twin)) (half_state O.half (T.both result.0)) }
     ensures frame { Frame (half_state O.half (T.both twin)) (half_state O.half (T.both result.0)) }
@@ -121,6 +122,7 @@ pub(crate) fn replace_first<T: Twin>(
     ensures kept { OnOk result (IsTrue (T.both twin.old).told → IsKept (HasFile store.new) (half_state First (T.both twin.new)) (half_leaves First (T.leaves twin.new))) }
     ensures sent { IsTrue (T.both twin.old).told → (T.both twin.new).sent ≡ (T.both twin.old).sent }
     ensures any_moment { IsTrue (T.both twin.old).told → LeavesBeside First (T.both twin.old) (T.both twin.new) (T.leaves twin.old) (T.leaves twin.new) (Either store.old.identity store.old.content (identity_with limits.now fingerprint.now) content (T.both twin.old).sent) }
+    ensures put_most { IsTrue (T.both twin.old).told → (T.both twin.new).first.put ≤ (T.both twin.old).first.put + carry_most (identity_with limits.now fingerprint.now) content }
     ensures other_half { SameDisk Second (T.both twin.old) (T.both twin.new) }
     ensures other_stays { IsTrue (T.both twin.old).told → OtherStays First (T.both twin.old) (T.both twin.new) (T.leaves twin.old) (T.leaves twin.new) }
     ensures failed { IsErrOf result DeviceError.Failed → RoseAt First (T.both twin.old) (T.both twin.new) }

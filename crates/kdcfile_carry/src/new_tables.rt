@@ -9,16 +9,18 @@ ghost use Rattle.kdcfile_store.specs.Paged.{identity_with};
 ghost use Rattle.kd_update.specs.Carrying.{carried, dropped};
 ghost use Rattle.kd_update.specs.declared.error.UpdateError.{UpdateError as Cause};
 ghost use Rattle.kd_update.specs.declared.error.UpdateError.TheVariants as cause;
-ghost use Rattle.kdcfile_carry.specs.{Keeping.{IsKnown, content_by, files_in}, Ways.{judgement, made_with, next_sequence, pool_by, room_by}};
+ghost use Rattle.carry_steps.specs.Deciding.{next_sequence};
+ghost use Rattle.kdcfile_carry.specs.{Keeping.{IsKnown, content_by, files_in}, Ways.{judgement, made_with, pool_by, room_by}};
 
 use crate::error::FilesError;
 use crate::finding::Kept;
 use application_types::generation::Generation;
+use carry_steps::next_sequence;
 use kd_base::OutOfMemory;
 use kd_records::{Content, Patch, PatchItems};
-use kd_update::{Dropped, UpdateError, carried, judge};
 use kdcfile_copies::sequenced;
 use kdcfile_store::StoreLimits;
+use kd_update::{Dropped, UpdateError, carried, judge};
 use kdcs_types::Tables;
 use record_codec::records;
 use std::alloc::Global;
@@ -89,17 +91,10 @@ pub(crate) fn new_sequence(
     ensures spent { (n : ℕ) → IsErrOf result (FilesError.Spent n) → (is_some generation.now.double ≡ true) × (sequence ≡ Some n) × (last_sequence ≤ n) }
     ensures told { (IsErrOf result FilesError.TwoMeanings → ⊥) × (IsErrOf result FilesError.Failed → ⊥) × ((why : Cause) → IsErrOf result (FilesError.Refused why) → ⊥) }
 {
-    if generation.double().is_none() {
-        return Ok(None);
-    }
+    let double = generation.double().is_some();
     match sequence {
-        None => Ok(Some(0)),
-        Some(last) => {
-            if last >= LAST_SEQUENCE {
-                return Err(FilesError::Spent(last));
-            }
-            Ok(Some(last + 1))
-        }
+        Some(last) if double && last >= LAST_SEQUENCE => Err(FilesError::Spent(last)),
+        before => Ok(next_sequence(double, before)),
     }
 }
 

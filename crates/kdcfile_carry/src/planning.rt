@@ -10,6 +10,7 @@ use crate::losing::rows_gone;
 use crate::new_tables::{new_limits, new_sequence, new_tables};
 use crate::outcome::Would;
 use application_types::generation::Generation;
+use carry_steps::is_asked;
 use kd_update::{Dropped, UpdateError};
 use kdcs_types::Tables;
 use std::alloc::Global;
@@ -29,7 +30,7 @@ fn are_own(generation: &Generation, fingerprint: &[u8; 32], kept: &Kept) -> bool
     ensures { IsTrue result ↔ AreOwn generation.now fingerprint.now (files_in kept.now) }
 {
     *kept.file.store.fingerprint() == *fingerprint
-        && kept.sequence.is_some() == generation.double().is_some()
+        && is_asked(generation.double().is_some(), kept.sequence.is_some())
 }
 
 // Such files are made as the texts ask, and their tables suit.

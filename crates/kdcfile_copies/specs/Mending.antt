@@ -1,5 +1,5 @@
 -- A half of a twin that is written anew from the other one, and what a stop leaves of it.
-use Rattle.std.specs.Prelude.{◌≡◌, ◌⊎◌, ◌≤◌, ◌<◌, ℕ, List, ◌∷◌, length, take, drop, get_or}
+use Rattle.std.specs.Prelude.{◌≡◌, ◌⊎◌, ◌≤◌, ◌<◌, ℕ, ◌+◌, List, ◌∷◌, length, take, drop, get_or, Option, Some, None}
 use Rattle.kd_device.specs.Device.{LeavesOnly, Only}
 use Rattle.kd_device.specs.declared.half.Half.{Half}
 use Rattle.kd_device.specs.Twin.{Both, Disk, other, disk_of, half_state, slice}
@@ -27,6 +27,10 @@ IsMending source before c = (c ≡ before) ⊎ (IsShut c ⊎ BeginsWith source c
 abbrev pub LeavesHalf : Half → List ℕ → (List ℕ → Type 0) → Both → Both → (ℕ → List ℕ → List ℕ → List ℕ → Type 0) → (ℕ → List ℕ → List ℕ → List ℕ → Type 0) → Type 0
 LeavesHalf half file P old new past since =
     (d : List ℕ) → LeavesOnly (half_state half old) (half_state half new) (slice half d past) (slice half d since) (λ c out. (out ≡ old.sent) × (d ≡ file) × P c)
+
+-- how many bytes are written at most to a half that is mended from this file: those after its gate, and the own gate twice
+abbrev pub mending_most : (source : List ℕ) → ℕ
+mending_most source = length source + 1
 
 -- the same disk, but for the count of its faults
 pub record SameButFaults (old new : Disk) : Type 0 where
@@ -58,6 +62,11 @@ pub record Mends (target : Half) (P : List ℕ → Type 0) (a b : Both) (la lb :
 pub record HasShutGate (file : List ℕ) : Type 0 where
   pub some : 1 ≤ length file
   pub shut : get_or file 0 0 ≡ 75 → ⊥
+
+-- this is the gate of a file, or there is none
+abbrev pub IsGate : Option ℕ → List ℕ → Type 0
+IsGate None file = length file < 1
+IsGate (Some b) file = (1 ≤ length file) × (get_or file 0 0 ≡ b)
 
 -- the gate is open, or there is none yet
 abbrev pub HasNoShutGate : List ℕ → Type 0

@@ -13,4 +13,5 @@ mod synced;
 
 pub use copying::copy_over;
 pub use error::CopyError;
+pub use gate::shut_gate;
 pub use laws::{copies_mean_the_same, shut_files_mean_nothing};

@@ -23,6 +23,10 @@ gate_shuts h c from (inl short) torn = inr (inl (omega (arith, short, torn.no_lo
 gate_shuts h c from (inr is) torn =
     ⊎_elim (λ e. inl (with_gate c e ∙ ap (λ (l : List ℕ). 75 ∷ l) torn.after ∙ sym (with_gate h is))) (λ ne. inr (inr ne)) (cases_eq (get_or c 0 0) 75)
 
+-- a closed gate is written
+pub closed_gate : (h : List ℕ) → HasShutGate (written h 0 (0 ∷ []))
+closed_gate h = record { some = omega arith; shut = λ e. omega (arith, e) }
+
 -- what is torn after it leaves it
 gate_stays : (at upto : ℕ) (h c : List ℕ) → 1 ≤ at → 1 ≤ length h → Torn (min at (length h)) upto h c → get_or c 0 0 ≡ get_or h 0 0
 gate_stays at upto h c after some torn =

@@ -17,6 +17,7 @@ pub record Copied (target : Half) (at end : ℕ) (a b : Both) (la lb : ℕ → L
   pub fine : (disk_of target b).disk_faults ≡ (disk_of target a).disk_faults
   pub fine_source : (disk_of (other target) b).disk_faults ≡ (disk_of (other target) a).disk_faults
   pub mends : IsTrue a.told → Mends target IsShut a b la lb
+  pub put : IsTrue a.told → (disk_of target b).put + 1 ≤ (disk_of target a).put + at
   pub rest : IsTrue a.told → BothRest b lb
   pub shut : IsTrue a.told → HasShutGate (disk_of target b).holds
   pub end_is : IsTrue a.told → end ≡ length (disk_of (other target) a).holds
@@ -36,6 +37,7 @@ copied_begin target end a b la lb goes same fine mends rest end_is shut is_open 
   fine = ap (λ d. d.disk_faults) same;
   fine_source = fine;
   mends = λ told. stays_shut target a b la lb (shut told) (mends told);
+  put = λ told. let none : (disk_of target b).put ≡ (disk_of target a).put = ap (λ d. d.put) same in omega (arith, none);
   rest = rest;
   shut = λ told. subst HasShutGate (ap (λ d. d.holds) (sym same)) (shut told);
   end_is = end_is;
@@ -50,6 +52,9 @@ module _ (target : Half) (at end : ℕ) (a b : Both) (la lb : ℕ → List ℕ �
       let is : at ≡ length s = omega (arith, le, so_far.within told, so_far.end_is told) in
       subst (λ (n : ℕ). take n (opened (disk_of target b).holds) ≡ s) is (so_far.copied told ∙ take_all at s (omega (arith, is)))
 
+  pub put_all : IsTrue a.told → (disk_of target b).put + 1 ≤ (disk_of target a).put + length (disk_of (other target) a).holds
+  put_all told = omega (arith, so_far.put told, so_far.within told, so_far.end_is told)
+
   pub told_b : IsTrue a.told → IsTrue b.told
   told_b told = subst IsTrue (sym so_far.goes.told) told
 
@@ -57,14 +62,21 @@ module _ (target : Half) (at end : ℕ) (a b : Both) (la lb : ℕ → List ℕ �
     pub copied_within : IsTrue a.told → Mends target IsShut a e la le
     copied_within told = mends_then target IsShut a b la lb (so_far.mends told) e le _ (step (told_b told)) (λ c torn. still_shut at (at + k) (disk_of target b).holds c so_far.one (so_far.shut told) torn)
 
-    pub copied_next : at + k ≤ end → Goes target b e → (disk_of target e).disk_faults ≡ (disk_of target b).disk_faults → (disk_of (other target) e).disk_faults ≡ (disk_of (other target) b).disk_faults
+    pub put_within : (IsTrue b.told → (disk_of target e).put ≤ (disk_of target b).put + k) → IsTrue a.told → (disk_of target e).put + 1 ≤ (disk_of target a).put + (at + k)
+    put_within more told = omega (arith, so_far.put told, more (told_b told))
+
+    pub put_inside : (IsTrue b.told → (disk_of target e).put ≤ (disk_of target b).put + k) → at + k ≤ end → IsTrue a.told → (disk_of target e).put + 1 ≤ (disk_of target a).put + length (disk_of (other target) a).holds
+    put_inside more inside told = omega (arith, put_within more told, inside, so_far.end_is told)
+
+    pub copied_next : (IsTrue b.told → (disk_of target e).put ≤ (disk_of target b).put + k) → at + k ≤ end → Goes target b e → (disk_of target e).disk_faults ≡ (disk_of target b).disk_faults → (disk_of (other target) e).disk_faults ≡ (disk_of (other target) b).disk_faults
         → (IsTrue b.told → (disk_of target e).holds ≡ written (disk_of target b).holds at (take k (drop at (disk_of (other target) b).holds))) → (IsTrue b.told → BothRest e le) → Copied target (at + k) end a e la le
-    copied_next inside goes fine fine_source holds rest = record {
+    copied_next more inside goes fine fine_source holds rest = record {
       one = omega (arith, so_far.one);
       goes = goes_then target a b e so_far.goes goes;
       fine = fine ∙ so_far.fine;
       fine_source = fine_source ∙ so_far.fine_source;
       mends = copied_within;
+      put = put_within more;
       rest = λ told. rest (told_b told);
       shut = λ told. subst HasShutGate (sym (holds (told_b told))) (shut_after at (disk_of target b).holds (take k (drop at (disk_of (other target) b).holds)) so_far.one (so_far.shut told));
       end_is = so_far.end_is;

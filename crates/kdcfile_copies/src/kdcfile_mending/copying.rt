@@ -3,7 +3,7 @@ ghost use Rattle.std.specs.Prelude.{◌≡◌, ◌≤◌, ◌<◌, ◌+◌, ◌^
 ghost use Rattle.kd_device.specs.Device.{Rose, Torn, Frame, SameDiskFaults, SameLineFaults, SameNames, written};
 ghost use Rattle.kd_device.specs.Twin.{Both, other, disk_of, half_state};
 ghost use Rattle.kdcfile_layout.specs.Gates.{IsShut};
-ghost use Rattle.kdcfile_copies.specs.Mending.{HalfRests, BothRest, BeginsWith, IsMending, LeavesHalf, SameButFaults, Goes, Mends, HasShutGate, opened};
+ghost use Rattle.kdcfile_copies.specs.Mending.{HalfRests, BothRest, BeginsWith, IsMending, LeavesHalf, SameButFaults, Goes, Mends, HasShutGate, mending_most, opened};
 
 use crate::kdcfile_mending::error::CopyError;
 use crate::kdcfile_mending::gate::{OPEN, shut_gate};
@@ -33,6 +33,7 @@ fn copy_piece<T: Twin>(
     ensures goes { Goes target (T.both twin.old) (T.both twin.new) }
     ensures place { T.place twin.new ≡ T.place twin.old }
     ensures any_moment { IsTrue (T.both twin.old).told → Mends target (λ c. Torn (min at (length (disk_of target (T.both twin.old)).holds)) (at + len) (disk_of target (T.both twin.old)).holds c) (T.both twin.old) (T.both twin.new) (T.leaves twin.old) (T.leaves twin.new) }
+    ensures put_most { IsTrue (T.both twin.old).told → (disk_of target (T.both twin.new)).put ≤ (disk_of target (T.both twin.old)).put + len }
     ensures holds { OnOk result (IsTrue (T.both twin.old).told → (disk_of target (T.both twin.new)).holds ≡ written (disk_of target (T.both twin.old)).holds at (take len (drop at (disk_of (other target) (T.both twin.old)).holds))) }
     ensures rest { OnOk result (IsTrue (T.both twin.old).told → BothRest (T.both twin.new) (T.leaves twin.new)) }
 {
@@ -52,6 +53,7 @@ fn copy_rest<T: Twin>(alloc: Global, twin: &mut T, target: Half) -> Result<(), C
     ensures goes { Goes target (T.both twin.old) (T.both twin.new) }
     ensures place { T.place twin.new ≡ T.place twin.old }
     ensures any_moment { IsTrue (T.both twin.old).told → Mends target IsShut (T.both twin.old) (T.both twin.new) (T.leaves twin.old) (T.leaves twin.new) }
+    ensures put_most { IsTrue (T.both twin.old).told → (disk_of target (T.both twin.new)).put + 1 ≤ (disk_of target (T.both twin.old)).put + length (disk_of (other target) (T.both twin.old)).holds }
     ensures copied { OnOk result (IsTrue (T.both twin.old).told → BeginsWith (disk_of (other target) (T.both twin.old)).holds (opened (disk_of target (T.both twin.new)).holds)) }
     ensures rest { OnOk result (IsTrue (T.both twin.old).told → BothRest (T.both twin.new) (T.leaves twin.new)) }
 {
@@ -76,10 +78,11 @@ fn mend<T: Twin>(alloc: Global, twin: &mut T, target: Half) -> Result<(), CopyEr
     ensures goes { Goes target (T.both twin.old) (T.both twin.new) }
     ensures place { T.place twin.new ≡ T.place twin.old }
     ensures any_moment { IsTrue (T.both twin.old).told → Mends target (IsMending (disk_of (other target) (T.both twin.old)).holds (disk_of target (T.both twin.old)).holds) (T.both twin.old) (T.both twin.new) (T.leaves twin.old) (T.leaves twin.new) }
+    ensures put_most { IsTrue (T.both twin.old).told → (disk_of target (T.both twin.new)).put ≤ (disk_of target (T.both twin.old)).put + mending_most (disk_of (other target) (T.both twin.old)).holds }
     ensures copied { OnOk result (IsTrue (T.both twin.old).told → BeginsWith (disk_of (other target) (T.both twin.old)).holds (disk_of target (T.both twin.new)).holds) }
     ensures rest { OnOk result (IsTrue (T.both twin.old).told → BothRest (T.both twin.new) (T.leaves twin.new)) }
 {
-    shut_gate(twin, target)?;
+    shut_gate(twin, target, true)?;
     copy_rest(alloc, twin, target)?;
     put_synced(twin, target, 0, &[OPEN])
 }
@@ -101,6 +104,7 @@ pub fn copy_over<T: Twin>(alloc: Global, twin: &mut T, source: Half) -> Result<(
     ensures source { IsTrue (T.both twin.old).told → SameButFaults (disk_of source (T.both twin.old)) (disk_of source (T.both twin.new)) }
     ensures source_rests { IsTrue (T.both twin.old).told → HalfRests source (T.both twin.new) (T.leaves twin.new) }
     ensures any_moment { IsTrue (T.both twin.old).told → LeavesHalf (other source) (disk_of source (T.both twin.old)).holds (IsMending (disk_of source (T.both twin.old)).holds (disk_of (other source) (T.both twin.old)).holds) (T.both twin.old) (T.both twin.new) (T.leaves twin.old) (T.leaves twin.new) }
+    ensures put_most { IsTrue (T.both twin.old).told → (disk_of (other source) (T.both twin.new)).put ≤ (disk_of (other source) (T.both twin.old)).put + mending_most (disk_of source (T.both twin.old)).holds }
     ensures copied { OnOk result (IsTrue (T.both twin.old).told → BeginsWith (disk_of source (T.both twin.old)).holds (disk_of (other source) (T.both twin.new)).holds) }
     ensures rest { OnOk result (IsTrue (T.both twin.old).told → BothRest (T.both twin.new) (T.leaves twin.new)) }
 {

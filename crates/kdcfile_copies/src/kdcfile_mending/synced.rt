@@ -23,6 +23,7 @@ pub(crate) fn put_synced<T: Twin>(
     ensures goes { Goes target (T.both twin.old) (T.both twin.new) }
     ensures place { T.place twin.new ≡ T.place twin.old }
     ensures any_moment { IsTrue (T.both twin.old).told → Mends target (λ c. Torn (min at (length (disk_of target (T.both twin.old)).holds)) (at + length bytes.now) (disk_of target (T.both twin.old)).holds c) (T.both twin.old) (T.both twin.new) (T.leaves twin.old) (T.leaves twin.new) }
+    ensures put_most { IsTrue (T.both twin.old).told → (disk_of target (T.both twin.new)).put ≤ (disk_of target (T.both twin.old)).put + length bytes.now }
     ensures holds { OnOk result (IsTrue (T.both twin.old).told → (disk_of target (T.both twin.new)).holds ≡ written (disk_of target (T.both twin.old)).holds at bytes.now) }
     ensures rest { OnOk result (IsTrue (T.both twin.old).told → BothRest (T.both twin.new) (T.leaves twin.new)) }
 {

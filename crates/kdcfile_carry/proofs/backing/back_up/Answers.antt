@@ -1,10 +1,11 @@
-use Rattle.std.proofs.Common.{subst}
+use Rattle.std.proofs.Common.{inl, refl, subst}
 use Rattle.std.specs.Prelude.{IfNone}
 use Rattle.kdcfile_carry.specs.declared.error.FilesError.TheVariants as cause
 use Rattle.kdcfile_carry.specs.Keeping.{files_in}
 use Rattle.kdcfile_carry.specs.Ways.{IsUpToDate}
 use Rattle.kdcfile_carry.proofs.Backed.{files_cause, on_ok_two}
 use Rattle.kdcfile_carry.proofs.Found.{refusal, spent_are}
+use Rattle.kdcfile_carry.proofs.Sizes.{of_files}
 use Rattle.kdcfile_carry.proofs.backing.back_up.Goals as goal
 
 pub returns-in_err-planned-clause-refused : goal.returns-in_err-planned-clause-refused
@@ -29,3 +30,17 @@ returns-clause-done g c = on_ok_two c.write_down.result _ _ _
       },
     ))
     c.write_down.ensures.stands c.write_down.ensures.at_rest
+
+pub returns-in_err-kept-clause-written : goal.returns-in_err-kept-clause-written
+returns-in_err-kept-clause-written g c = λ told told_to. inl refl
+
+pub returns-in_err-planned-clause-written : goal.returns-in_err-planned-clause-written
+returns-in_err-planned-clause-written g c = λ told told_to. inl refl
+
+pub returns-in-Some-clause-written : goal.returns-in-Some-clause-written
+returns-in-Some-clause-written g c = λ told told_to. inl refl
+
+pub returns-clause-written : goal.returns-clause-written
+returns-clause-written g c = λ told told_to.
+    of_files c.args.generation.now c.args.fingerprint.now (g.T.Twin.both c.args.twin.now).first.holds (g.T.Twin.both c.args.twin.now).second.holds (files_in c.in_ok-kept.kept) (g.D.Device.state c.args.to.now) (g.D.Device.state c.write_down.new.to) (c.in_ok-kept.ensures.is_in told).files
+    (subst (λ o. IfNone o (IsUpToDate c.args.generation.now c.args.fingerprint.now (files_in c.in_ok-kept.kept))) c.in-None.is c.in_ok-planned.ensures.none) (c.write_down.ensures.put_most told_to)

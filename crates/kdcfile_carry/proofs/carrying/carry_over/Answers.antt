@@ -5,11 +5,13 @@ use Rattle.record_codec.specs.Records.{content_of_tables}
 use Rattle.kdcfile_double.specs.MakingLaws.{frame_then, rose_then}
 use Rattle.kdcfile_double.specs.MendLaws.{copy_open, on_ok}
 use Rattle.kd_update.specs.Carrying.{carried}
+use Rattle.carry_steps.specs.Deciding.{next_sequence}
 use Rattle.kdcfile_carry.specs.Doing.{AreEither}
 use Rattle.kdcfile_carry.specs.Keeping.{IsSource, files_in}
 use Rattle.kdcfile_carry.specs.Leaving.{StaysWithin}
 use Rattle.kdcfile_carry.specs.LeavingLaws.{stays_then, stays_weaker}
-use Rattle.kdcfile_carry.specs.Ways.{carried_files, made_with, next_sequence}
+use Rattle.kdcfile_carry.specs.WritingLaws.{carried_only, carried_then}
+use Rattle.kdcfile_carry.specs.Ways.{carried_files, made_with}
 use Rattle.kdcfile_carry.proofs.Changing.{new_copy_files, new_halves, next_none, next_some, now_leaves, one_asked, one_stands_alone, two_asked}
 use Rattle.kdcfile_carry.proofs.Steps.{alone_of, alone_then, if_ok_both, if_ok_weaker, none_alone}
 use Rattle.kdcfile_carry.proofs.carrying.carry_over.Given.{Over}
@@ -80,3 +82,15 @@ returns-in-None-clause-halves g c = λ told.
 
 pub returns-in-None-clause-fine : goal.returns-in-None-clause-fine
 returns-in-None-clause-fine g c = none_alone (g.T.Twin.both c.args.twin.now) (g.T.Twin.both c.change_first.new.twin) c.in_ok-change_first.ensures.fine
+
+pub returns-in_err-change_first-clause-written : goal.returns-in_err-change_first-clause-written
+returns-in_err-change_first-clause-written g c = λ told. carried_only c.args.generation.now c.args.fingerprint.now (files_in c.args.kept.now) (g.T.Twin.both c.args.twin.now) (g.T.Twin.both c.change_first.new.twin) (c.change_first.ensures.written told)
+
+pub returns-in-None-clause-written : goal.returns-in-None-clause-written
+returns-in-None-clause-written g c = λ told. carried_only c.args.generation.now c.args.fingerprint.now (files_in c.args.kept.now) (g.T.Twin.both c.args.twin.now) (g.T.Twin.both c.change_first.new.twin) (c.change_first.ensures.written told)
+
+pub returns-in-Some-clause-written : goal.returns-in-Some-clause-written
+returns-in-Some-clause-written g c = λ told.
+    let told_b : IsTrue (g.T.Twin.both c.change_first.new.twin).told = subst IsTrue (sym c.change_first.ensures.frame.told) told in
+    carried_then c.args.generation.now c.args.fingerprint.now (files_in c.args.kept.now) (g.T.Twin.both c.args.twin.now) (g.T.Twin.both c.change_first.new.twin) (g.T.Twin.both c.write_anew.new.twin)
+    (two_asked c.double.result c.args.generation.now.double _ c.double.ensures c.in-Some.is) (c.change_first.ensures.written told) (c.write_anew.ensures.put_most told_b) (c.write_anew.ensures.source_put told_b) (c.write_anew.ensures.source_stays told_b)

@@ -1,5 +1,6 @@
-use Rattle.std.proofs.Common.{◌≤◌, ℕ, sym, ap, subst, ◌∙◌}
+use Rattle.std.proofs.Common.{◌≤◌, ◌+◌, ℕ, sym, ap, subst, ◌∙◌}
 use Rattle.std.specs.Prelude.{IsTrue}
+use Rattle.kd_device.specs.Twin.{Disk}
 use Rattle.kd_records.specs.Charge.{total_charge}
 use Rattle.kd_records.specs.Identity.{Identity, IsIdentity}
 use Rattle.kdcfile_store.specs.Paged.{identity_with}
@@ -8,7 +9,8 @@ use Rattle.kdcfile_carry.specs.Doing.{AreEither}
 use Rattle.kdcfile_carry.specs.Keeping.{files_in}
 use Rattle.kdcfile_carry.specs.Leaving.{StaysWithin}
 use Rattle.kdcfile_carry.specs.Ways.{carried_files, made_with}
-use Rattle.kdcfile_carry.proofs.Changing.{change_stays, changed_files, changed_rest, changed_source}
+use Rattle.kdcfile_carry.specs.Writing.{commit_most}
+use Rattle.kdcfile_carry.proofs.Changing.{change_stays, changed_files, changed_rest, changed_source, commit_is}
 use Rattle.kdcfile_carry.proofs.NewTables.{can_replace, new_are_tables}
 use Rattle.kdcfile_carry.proofs.carrying.change.Given.{Over}
 use Rattle.kdcfile_carry.proofs.carrying.change.Goals.{After-new_limits-limits, After-replace_first}
@@ -71,3 +73,20 @@ returns-clause-at_rest g c = λ told.
     (identity_with c.new_limits-limits.result c.args.fingerprint.now) c.args.content c.new_limits-limits.ensures.made c.requires.content
     (g.T.Twin.both c.args.twin.now) (g.T.Twin.both c.replace_first.new.twin) (g.T.Twin.leaves c.args.twin.now) (g.T.Twin.leaves c.replace_first.new.twin) (c.requires.ready told) (c.requires.at_rest told)
     c.replace_first.new.store c.in_ok-replace_first.ensures.identity c.in_ok-replace_first.ensures.content (c.in_ok-replace_first.ensures.kept told) c.replace_first.ensures.other_half (c.replace_first.ensures.other_stays told)
+
+puts : (g : Over) (c : After-replace_first g) → IsTrue (g.T.Twin.both c.args.twin.now).told → (g.T.Twin.both c.replace_first.new.twin).first.put ≤ (g.T.Twin.both c.args.twin.now).first.put + commit_most c.args.generation.now c.args.fingerprint.now (files_in c.args.kept.now)
+puts g c told =
+    subst (λ (m : ℕ). (g.T.Twin.both c.replace_first.new.twin).first.put ≤ (g.T.Twin.both c.args.twin.now).first.put + m)
+    (commit_is c.args.generation.now c.args.fingerprint.now (files_in c.args.kept.now) (identity_with c.new_limits-limits.result c.args.fingerprint.now) c.args.content c.new_limits-limits.ensures.made c.requires.content) (c.replace_first.ensures.put_most told)
+
+pub returns-in_err-replace_first-clause-put_most : goal.returns-in_err-replace_first-clause-put_most
+returns-in_err-replace_first-clause-put_most g c = puts g (goal.at.returns-in_err-replace_first-clause-put_most g c).After-replace_first
+
+pub returns-clause-put_most : goal.returns-clause-put_most
+returns-clause-put_most g c = puts g (goal.at.returns-clause-put_most g c).After-replace_first
+
+pub returns-in_err-replace_first-clause-other_put : goal.returns-in_err-replace_first-clause-other_put
+returns-in_err-replace_first-clause-other_put g c = λ told. ap (λ (x : Disk). x.put) c.replace_first.ensures.other_half
+
+pub returns-clause-other_put : goal.returns-clause-other_put
+returns-clause-other_put g c = λ told. ap (λ (x : Disk). x.put) c.replace_first.ensures.other_half

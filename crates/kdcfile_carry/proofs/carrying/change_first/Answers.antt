@@ -8,6 +8,7 @@ use Rattle.kdcfile_carry.specs.Files.{AreFiles}
 use Rattle.kdcfile_carry.specs.Keeping.{files_in}
 use Rattle.kdcfile_carry.specs.Leaving.{StaysWithin}
 use Rattle.kdcfile_carry.specs.LeavingLaws.{stays_then, stays_weaker}
+use Rattle.kdcfile_carry.specs.WritingLaws.{changes_only, changes_then}
 use Rattle.kdcfile_carry.specs.Ways.{carried_files}
 use Rattle.kdcfile_carry.proofs.carrying.change_first.Given.{Over}
 use Rattle.kdcfile_carry.proofs.carrying.change_first.Goals.{After-prepare}
@@ -50,3 +51,11 @@ returns-clause-fine g c = on_ok_weaker c.change.result (λ none. none_rose_then 
 
 pub returns-clause-frame : goal.returns-clause-frame
 returns-clause-frame g c = frame_then (g.T.Twin.both c.args.twin.now) (g.T.Twin.both c.prepare.new.twin) (g.T.Twin.both c.change.new.twin) c.prepare.ensures.frame c.change.ensures.frame
+
+pub returns-in_err-prepare-clause-written : goal.returns-in_err-prepare-clause-written
+returns-in_err-prepare-clause-written g c = λ told. changes_only c.args.generation.now c.args.fingerprint.now (files_in c.args.kept.now) (g.T.Twin.both c.args.twin.now) (g.T.Twin.both c.prepare.new.twin) (c.prepare.ensures.written told)
+
+pub returns-clause-written : goal.returns-clause-written
+returns-clause-written g c = λ told.
+    let told_b : IsTrue (g.T.Twin.both c.prepare.new.twin).told = subst IsTrue (sym c.prepare.ensures.frame.told) told in
+    changes_then c.args.generation.now c.args.fingerprint.now (files_in c.args.kept.now) (g.T.Twin.both c.args.twin.now) (g.T.Twin.both c.prepare.new.twin) (g.T.Twin.both c.change.new.twin) (c.prepare.ensures.written told) (c.change.ensures.put_most told_b) (c.change.ensures.other_put told_b)

@@ -7,7 +7,9 @@ use Rattle.kdcfile_carry.specs.Keeping.{IsSource, files_in}
 use Rattle.kdcfile_carry.specs.Leaving.{EachStands, StaysWithin}
 use Rattle.kdcfile_carry.proofs.Steps.{rose_on}
 use Rattle.kdcfile_carry.specs.LeavingLaws.{stays_weaker}
-use Rattle.kdcfile_carry.proofs.Changing.{anew_on_first, numbered, open_second, source_in, source_second}
+use Rattle.kdcfile_carry.specs.Writing.{MendsFirst}
+use Rattle.kdcfile_carry.specs.WritingLaws.{mends_first}
+use Rattle.kdcfile_carry.proofs.Changing.{anew_on_first, first_other, numbered, open_second, source_in, source_second}
 use Rattle.kdcfile_carry.proofs.carrying.first_anew.Given.{Over}
 use Rattle.kdcfile_carry.proofs.carrying.first_anew.Goals.{After-write_anew}
 use Rattle.kdcfile_carry.proofs.carrying.first_anew.Goals as goal
@@ -49,3 +51,16 @@ returns-in-Ok-None-clause-fine g c =
 
 pub returns-in-Ok-Some-clause-failed : goal.returns-in-Ok-Some-clause-failed
 returns-in-Ok-Some-clause-failed g c = λ is. rose_on c.in-Ok-Some.field-0-0 (g.T.Twin.both c.args.twin.now) (g.T.Twin.both c.write_anew.new.twin) (c.in-Ok-Some.ensures.lost c.in-Ok-Some.field-0-0 c.in-Ok-Some.field-0-is).1
+
+writes : (g : Over) (c : After-write_anew g) → IsTrue (g.T.Twin.both c.args.twin.now).told → MendsFirst (files_in c.args.kept.now) (g.T.Twin.both c.args.twin.now) (g.T.Twin.both c.write_anew.new.twin)
+writes g c told =
+    mends_first (files_in c.args.kept.now) (g.T.Twin.both c.args.twin.now) (g.T.Twin.both c.write_anew.new.twin) (first_other c.args.kept.now c.requires.known (g.T.Twin.both c.args.twin.now) (c.requires.is_in told) c.requires.second) (c.write_anew.ensures.put_most told) (c.write_anew.ensures.source_put told)
+
+pub returns-in-Ok-None-clause-written : goal.returns-in-Ok-None-clause-written
+returns-in-Ok-None-clause-written g c = writes g (goal.at.returns-in-Ok-None-clause-written g c).After-write_anew
+
+pub returns-in-Ok-Some-clause-written : goal.returns-in-Ok-Some-clause-written
+returns-in-Ok-Some-clause-written g c = writes g (goal.at.returns-in-Ok-Some-clause-written g c).After-write_anew
+
+pub returns-in-Err-clause-written : goal.returns-in-Err-clause-written
+returns-in-Err-clause-written g c = writes g (goal.at.returns-in-Err-clause-written g c).After-write_anew

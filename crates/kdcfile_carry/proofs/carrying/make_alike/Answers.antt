@@ -1,11 +1,14 @@
-use Rattle.std.proofs.Common.{◌≡◌, ℕ, Some, None, sym, subst}
+use Rattle.std.proofs.Common.{◌≡◌, ℕ, Some, None, inl, inr, sym, subst}
 use Rattle.std.specs.Prelude.{IsTrue}
+use Rattle.kd_device.specs.Twin.{other}
 use Rattle.kdcfile_carry.specs.Doing.{FailsAlone}
 use Rattle.kdcfile_carry.specs.Files.{AreFiles}
 use Rattle.kdcfile_carry.specs.Keeping.{IsSource, files_in}
 use Rattle.kdcfile_carry.specs.Leaving.{EachStands, StaysWithin}
 use Rattle.kdcfile_carry.specs.LeavingLaws.{stays_weaker}
-use Rattle.kdcfile_carry.proofs.Changing.{alike_stands, is_behind, not_alone, source_in}
+use Rattle.kdcfile_carry.specs.Writing.{MakesAlike}
+use Rattle.kdcfile_carry.specs.WritingLaws.{anew_beside, none_here}
+use Rattle.kdcfile_carry.proofs.Changing.{alike_stands, half_other, is_behind, not_alone, source_in}
 use Rattle.kdcfile_carry.proofs.Steps.{alone_of}
 use Rattle.kdcfile_carry.proofs.carrying.make_alike.Given.{Over}
 use Rattle.kdcfile_carry.proofs.carrying.make_alike.Goals.{After-write_anew}
@@ -56,3 +59,24 @@ returns-in-Ok-None-clause-fine g c =
 pub returns-in-Ok-Some-clause-fine : goal.returns-in-Ok-Some-clause-fine
 returns-in-Ok-Some-clause-fine g c =
     subst (λ o. FailsAlone o (g.T.Twin.both c.args.twin.now) (g.T.Twin.both c.write_anew.new.twin)) c.in-Ok-Some.field-0-is (alone_of c.args.kept.now.home c.in-Ok-Some.field-0 (g.T.Twin.both c.args.twin.now) (g.T.Twin.both c.write_anew.new.twin) c.in-Ok-Some.ensures.lost c.in-Ok-Some.ensures.fine c.write_anew.ensures.line)
+
+pub returns-then-kept-clause-written : goal.returns-then-kept-clause-written
+returns-then-kept-clause-written g c = λ told. inl (none_here (g.T.Twin.both c.args.twin.now))
+
+writes : (g : Over) (c : After-write_anew g) → IsTrue (g.T.Twin.both c.args.twin.now).told → MakesAlike (files_in c.args.kept.now) (g.T.Twin.both c.args.twin.now) (g.T.Twin.both c.write_anew.new.twin)
+writes g c told =
+    let k = c.args.kept.now in
+    inr (
+      other k.home,
+      half_other k c.requires.known (g.T.Twin.both c.args.twin.now) (c.requires.is_in told) c.if-kept.false,
+      anew_beside k.home (g.T.Twin.both c.args.twin.now) (g.T.Twin.both c.write_anew.new.twin) (c.write_anew.ensures.put_most told) (c.write_anew.ensures.source_put told),
+    )
+
+pub returns-in-Ok-None-clause-written : goal.returns-in-Ok-None-clause-written
+returns-in-Ok-None-clause-written g c = writes g (goal.at.returns-in-Ok-None-clause-written g c).After-write_anew
+
+pub returns-in-Ok-Some-clause-written : goal.returns-in-Ok-Some-clause-written
+returns-in-Ok-Some-clause-written g c = writes g (goal.at.returns-in-Ok-Some-clause-written g c).After-write_anew
+
+pub returns-in-Err-clause-written : goal.returns-in-Err-clause-written
+returns-in-Err-clause-written g c = writes g (goal.at.returns-in-Err-clause-written g c).After-write_anew

@@ -1,8 +1,10 @@
-use Rattle.std.proofs.Common.{sym, subst}
+use Rattle.std.proofs.Common.{inl, sym, subst}
 use Rattle.std.specs.Prelude.{IsTrue}
 use Rattle.kdcfile_double.specs.MakingLaws.{rests_then}
 use Rattle.kdcfile_carry.specs.Keeping.{IsIn, files_in}
+use Rattle.kdcfile_carry.specs.Losing.{MayLose}
 use Rattle.kdcfile_carry.specs.Ways.{files_after}
+use Rattle.kdcfile_carry.specs.WritingLaws.{most_since, none_of_same}
 use Rattle.kdcfile_carry.proofs.Found.{found_then, reading_stays, refusal, spent_are}
 use Rattle.kdcfile_carry.proofs.Steps.{as_after, if_ok_weaker, outcome_then}
 use Rattle.kdcfile_carry.proofs.files.carry_files.Goals as goal
@@ -43,3 +45,11 @@ pub returns-clause-still : goal.returns-clause-still
 returns-clause-still g c = λ told none.
     rests_then (g.T.Twin.both c.args.twin.now) (g.T.Twin.both c.find.new.twin) (g.T.Twin.leaves c.args.twin.now) (g.T.Twin.leaves c.find.new.twin) (c.find.ensures.rests told) (g.T.Twin.both c.carry_kept.new.twin) (g.T.Twin.leaves c.carry_kept.new.twin)
     (c.carry_kept.ensures.still (subst IsTrue (sym c.find.ensures.frame.told) told) (λ taken. none (files_in c.in_ok-kept.kept) (c.in_ok-kept.ensures.is_in told).files taken))
+
+pub returns-in_err-kept-clause-written : goal.returns-in_err-kept-clause-written
+returns-in_err-kept-clause-written g c = λ told. inl (none_of_same (g.T.Twin.both c.args.twin.now) (g.T.Twin.both c.find.new.twin) (c.find.ensures.rests told).files)
+
+pub returns-clause-written : goal.returns-clause-written
+returns-clause-written g c = λ told.
+    most_since (g.T.Twin.both c.args.twin.now) (g.T.Twin.both c.find.new.twin) (c.find.ensures.rests told).files (g.T.Twin.both c.carry_kept.new.twin) c.args.generation.now c.args.fingerprint.now (MayLose c.args.generation.now c.args.losses)
+    (c.carry_kept.ensures.written (subst IsTrue (sym c.find.ensures.frame.told) told))

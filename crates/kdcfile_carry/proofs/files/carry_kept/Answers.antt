@@ -4,9 +4,11 @@ use Rattle.kdcfile_carry.specs.Doing.{AreEither, IsPlan}
 use Rattle.kdcfile_carry.specs.Files.{AreFiles}
 use Rattle.kdcfile_carry.specs.Keeping.{files_in}
 use Rattle.kdcfile_carry.specs.Leaving.{StaysWithin}
+use Rattle.kdcfile_carry.specs.Losing.{MayLose}
 use Rattle.kdcfile_carry.specs.LeavingLaws.{stays_weaker}
 use Rattle.kdcfile_carry.specs.Ways.{IsUpToDate, files_after}
 use Rattle.kdcfile_carry.specs.WaysLaws.{after_other}
+use Rattle.kdcfile_carry.specs.WritingLaws.{carried_most, kept_most, none_here}
 use Rattle.kdcfile_carry.proofs.Changing.{stays_here}
 use Rattle.kdcfile_carry.proofs.files.carry_kept.Goals as goal
 
@@ -39,3 +41,18 @@ returns-in-None-clause-any_moment g c = λ told.
 pub returns-in-None-clause-still : goal.returns-in-None-clause-still
 returns-in-None-clause-still g c = λ told none.
     absurd (none (inl (subst (λ o. IfNone o (IsUpToDate c.args.generation.now c.args.fingerprint.now (files_in c.args.kept.now))) c.in-None.is c.in_ok-plan.ensures.none)))
+
+pub returns-in_err-plan-clause-written : goal.returns-in_err-plan-clause-written
+returns-in_err-plan-clause-written g c = λ told. inl (none_here (g.T.Twin.both c.args.twin.now))
+
+pub returns-in-Some-clause-written : goal.returns-in-Some-clause-written
+returns-in-Some-clause-written g c = λ told.
+    let f = files_in c.args.kept.now in
+    let planned = subst (λ o. IfSome o (λ p. IsPlan c.args.generation.now c.args.fingerprint.now f p)) c.in-Some.is c.in_ok-plan.ensures.plan in
+    carried_most c.args.generation.now c.args.fingerprint.now (MayLose c.args.generation.now c.args.losses) f (g.T.Twin.both c.args.twin.now) (g.T.Twin.both c.carry_planned.new.twin) (c.requires.is_in told).files planned.may (c.carry_planned.ensures.written told)
+
+pub returns-in-None-clause-written : goal.returns-in-None-clause-written
+returns-in-None-clause-written g c = λ told.
+    let f = files_in c.args.kept.now in
+    kept_most c.args.generation.now c.args.fingerprint.now (MayLose c.args.generation.now c.args.losses) f (g.T.Twin.both c.args.twin.now) (g.T.Twin.both c.keep_files.new.twin) (c.requires.is_in told).files
+    (subst (λ o. IfNone o (IsUpToDate c.args.generation.now c.args.fingerprint.now f)) c.in-None.is c.in_ok-plan.ensures.none) (c.keep_files.ensures.written told)

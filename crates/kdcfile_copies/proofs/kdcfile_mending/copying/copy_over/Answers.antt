@@ -43,3 +43,6 @@ returns-clause-any_moment g c =
 
 pub returns-clause-copied : goal.returns-clause-copied
 returns-clause-copied g c = rw (← c.other_half.ensures, ← other_back c.args.source c.other_half.result c.other_half.ensures) c.mend.ensures.copied
+
+pub returns-clause-put_most : goal.returns-clause-put_most
+returns-clause-put_most g c = rw (← c.other_half.ensures, ← other_back c.args.source c.other_half.result c.other_half.ensures) c.mend.ensures.put_most

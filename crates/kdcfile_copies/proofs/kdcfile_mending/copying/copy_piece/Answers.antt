@@ -1,4 +1,4 @@
-use Rattle.std.proofs.Common.{ℕ, List, ap, ◌∙◌}
+use Rattle.std.proofs.Common.{◌≡◌, ◌≤◌, ℕ, List, length, sym, ap, subst, ◌∙◌, arith}
 use Rattle.std.proofs.lemmas.Result.{on_ok_weaker}
 use Rattle.kd_device.specs.Device.{written}
 use Rattle.kd_device.specs.Twin.{disk_of}
@@ -30,3 +30,14 @@ returns-clause-holds g c = on_ok_weaker c.put_synced.result
 
 pub returns-clause-rest : goal.returns-clause-rest
 returns-clause-rest g c = on_ok_weaker c.put_synced.result (λ rest told. rest (told_then c.args.target _ _ c.source_piece.ensures.goes told)) c.put_synced.ensures.rest
+
+pub returns-in_err-piece-clause-put_most : goal.returns-in_err-piece-clause-put_most
+returns-in_err-piece-clause-put_most g c = λ told.
+    let none : (disk_of c.args.target (g.T.Twin.both c.source_piece.new.twin)).put ≡ (disk_of c.args.target (g.T.Twin.both c.args.twin.now)).put = ap (λ d. d.put) c.source_piece.ensures.other_half in
+    omega (arith, none)
+
+pub returns-clause-put_most : goal.returns-clause-put_most
+returns-clause-put_most g c = λ told.
+    let none : (disk_of c.args.target (g.T.Twin.both c.source_piece.new.twin)).put ≡ (disk_of c.args.target (g.T.Twin.both c.args.twin.now)).put = ap (λ d. d.put) c.source_piece.ensures.other_half in
+    let most : length c.as_slice.result.now ≤ c.args.len = subst (λ (l : List ℕ). length l ≤ c.args.len) (sym c.as_slice.ensures.value) c.in_ok-piece.ensures.bound in
+    omega (arith, none, most, c.put_synced.ensures.put_most (told_then c.args.target _ _ c.source_piece.ensures.goes told))

@@ -1,4 +1,4 @@
-use Rattle.std.proofs.Common.{ap, ◌∙◌, get_or}
+use Rattle.std.proofs.Common.{◌≡◌, ap, ◌∙◌, arith, get_or, length, refl}
 use Rattle.std.proofs.lemmas.Result.{on_ok_weaker}
 use Rattle.kd_device.specs.Twin.{other, disk_of}
 use Rattle.kdcfile_copies.proofs.kdcfile_mending.Halves.{goes_then}
@@ -12,7 +12,7 @@ pub copy_rest-requires-clause-source : goal.copy_rest-requires-clause-source
 copy_rest-requires-clause-source g c = λ told. ap (λ d. get_or d.holds 0 0) c.shut_gate.ensures.other_half ∙ c.requires.source (told_before c.args.target _ _ c.shut_gate.ensures.goes told)
 
 pub copy_rest-requires-clause-shut : goal.copy_rest-requires-clause-shut
-copy_rest-requires-clause-shut g c = λ told. c.in_ok-shut_gate.ensures.shut (told_before c.args.target _ _ c.shut_gate.ensures.goes told)
+copy_rest-requires-clause-shut g c = λ told. c.in_ok-shut_gate.ensures.made (told_before c.args.target _ _ c.shut_gate.ensures.goes told) refl
 
 pub put_synced-requires-clause-at_rest : goal.put_synced-requires-clause-at_rest
 put_synced-requires-clause-at_rest g c = λ told. c.in_ok-copy_rest.ensures.rest (told_before c.args.target _ _ c.copy_rest.ensures.goes told)
@@ -47,3 +47,18 @@ pub returns-clause-rest : goal.returns-clause-rest
 returns-clause-rest g c = on_ok_weaker c.put_synced.result
     (λ rest told. rest (told_then c.args.target _ _ c.copy_rest.ensures.goes (told_then c.args.target _ _ c.shut_gate.ensures.goes told)))
     c.put_synced.ensures.rest
+
+pub returns-in_err-shut_gate-clause-put_most : goal.returns-in_err-shut_gate-clause-put_most
+returns-in_err-shut_gate-clause-put_most g c = λ told. omega (arith, c.shut_gate.ensures.put_most told)
+
+pub returns-in_err-copy_rest-clause-put_most : goal.returns-in_err-copy_rest-clause-put_most
+returns-in_err-copy_rest-clause-put_most g c = λ told.
+    let same : length (disk_of (other c.args.target) (g.T.Twin.both c.shut_gate.new.twin)).holds ≡ length (disk_of (other c.args.target) (g.T.Twin.both c.args.twin.now)).holds = ap (λ d. length d.holds) c.shut_gate.ensures.other_half in
+    omega (arith, same, c.shut_gate.ensures.put_most told, c.copy_rest.ensures.put_most (told_then c.args.target _ _ c.shut_gate.ensures.goes told))
+
+pub returns-clause-put_most : goal.returns-clause-put_most
+returns-clause-put_most g c = λ told.
+    let told_b = told_then c.args.target _ _ c.shut_gate.ensures.goes told in
+    let told_d = told_then c.args.target _ _ c.copy_rest.ensures.goes told_b in
+    let same : length (disk_of (other c.args.target) (g.T.Twin.both c.shut_gate.new.twin)).holds ≡ length (disk_of (other c.args.target) (g.T.Twin.both c.args.twin.now)).holds = ap (λ d. length d.holds) c.shut_gate.ensures.other_half in
+    omega (arith, same, c.shut_gate.ensures.put_most told, c.copy_rest.ensures.put_most told_b, c.put_synced.ensures.put_most told_d)

@@ -2,7 +2,7 @@ use Rattle.std.proofs.Common.{ap, ◌∙◌, arith}
 use Rattle.std.specs.Prelude.{IsTrue}
 use Rattle.kd_device.specs.Device.{written}
 use Rattle.kdcfile_copies.proofs.kdcfile_mending.Halves.{goes_then, goes_on, goes_each}
-use Rattle.kdcfile_copies.proofs.kdcfile_mending.Put.{put_reserved, put_wrote, put_synced, put_rest}
+use Rattle.kdcfile_copies.proofs.kdcfile_mending.Put.{put_reserved, put_wrote, put_synced, put_rest, reserved_put, synced_put, wrote_put}
 use Rattle.kdcfile_copies.proofs.kdcfile_mending.synced.put_synced.Goals as goal
 
 pub returns-in_err-reserve-clause-goes : goal.returns-in_err-reserve-clause-goes
@@ -10,6 +10,9 @@ returns-in_err-reserve-clause-goes g c = goes_each c.args.target _ _ (c.reserve.
 
 pub returns-in_err-reserve-clause-any_moment : goal.returns-in_err-reserve-clause-any_moment
 returns-in_err-reserve-clause-any_moment g c = λ told. put_reserved c.args.target c.args.at c.args.bytes.now _ _ _ _ (c.requires.at_rest told) c.reserve.ensures.disk (c.reserve.ensures.content told)
+
+pub returns-in_err-reserve-clause-put_most : goal.returns-in_err-reserve-clause-put_most
+returns-in_err-reserve-clause-put_most g c = λ told. reserved_put c.args.target c.args.at c.args.bytes.now _ _ _ _ (c.requires.at_rest told) c.reserve.ensures.disk (c.reserve.ensures.content told)
 
 pub returns-in_err-write_at-clause-goes : goal.returns-in_err-write_at-clause-goes
 returns-in_err-write_at-clause-goes g c =
@@ -20,6 +23,11 @@ pub returns-in_err-write_at-clause-any_moment : goal.returns-in_err-write_at-cla
 returns-in_err-write_at-clause-any_moment g c = λ told.
     let told_b : IsTrue (g.T.Twin.both c.reserve.new.self).told = rw (c.reserve.ensures.frame c.args.target).told told in
     put_wrote c.args.target c.args.at c.args.bytes.now _ _ _ _ (c.requires.at_rest told) c.reserve.ensures.disk (c.reserve.ensures.content told) _ _ c.write_at.result (c.write_at.ensures.content told_b) c.write_at.ensures.other_half
+
+pub returns-in_err-write_at-clause-put_most : goal.returns-in_err-write_at-clause-put_most
+returns-in_err-write_at-clause-put_most g c = λ told.
+    let told_b : IsTrue (g.T.Twin.both c.reserve.new.self).told = rw (c.reserve.ensures.frame c.args.target).told told in
+    wrote_put c.args.target c.args.at c.args.bytes.now _ _ _ _ (c.requires.at_rest told) c.reserve.ensures.disk (c.reserve.ensures.content told) _ _ c.write_at.result (c.write_at.ensures.content told_b) c.write_at.ensures.other_half
 
 pub returns-in_err-sync-clause-goes : goal.returns-in_err-sync-clause-goes
 returns-in_err-sync-clause-goes g c =
@@ -34,6 +42,12 @@ returns-in_err-sync-clause-any_moment g c = λ told.
     let told_d : IsTrue (g.T.Twin.both c.write_at.new.self).told = rw c.write_at.ensures.frame.told told_b in
     put_synced c.args.target c.args.at c.args.bytes.now _ _ _ _ (c.requires.at_rest told) c.reserve.ensures.disk (c.reserve.ensures.content told) _ _ c.write_at.result (c.write_at.ensures.content told_b) c.write_at.ensures.other_half _ _ (c.sync.ensures.content told_d) c.sync.ensures.other_half
 
+pub returns-in_err-sync-clause-put_most : goal.returns-in_err-sync-clause-put_most
+returns-in_err-sync-clause-put_most g c = λ told.
+    let told_b : IsTrue (g.T.Twin.both c.reserve.new.self).told = rw (c.reserve.ensures.frame c.args.target).told told in
+    let told_d : IsTrue (g.T.Twin.both c.write_at.new.self).told = rw c.write_at.ensures.frame.told told_b in
+    synced_put c.args.target c.args.at c.args.bytes.now _ _ _ _ (c.requires.at_rest told) c.reserve.ensures.disk (c.reserve.ensures.content told) _ _ c.write_at.result (c.write_at.ensures.content told_b) c.write_at.ensures.other_half _ _ (c.sync.ensures.content told_d) c.sync.ensures.other_half
+
 pub returns-clause-goes : goal.returns-clause-goes
 returns-clause-goes g c =
     goes_then c.args.target _ _ _
@@ -46,6 +60,12 @@ returns-clause-any_moment g c = λ told.
     let told_b : IsTrue (g.T.Twin.both c.reserve.new.self).told = rw (c.reserve.ensures.frame c.args.target).told told in
     let told_d : IsTrue (g.T.Twin.both c.write_at.new.self).told = rw c.write_at.ensures.frame.told told_b in
     put_synced c.args.target c.args.at c.args.bytes.now _ _ _ _ (c.requires.at_rest told) c.reserve.ensures.disk (c.reserve.ensures.content told) _ _ c.write_at.result (c.write_at.ensures.content told_b) c.write_at.ensures.other_half _ _ (c.sync.ensures.content told_d) c.sync.ensures.other_half
+
+pub returns-clause-put_most : goal.returns-clause-put_most
+returns-clause-put_most g c = λ told.
+    let told_b : IsTrue (g.T.Twin.both c.reserve.new.self).told = rw (c.reserve.ensures.frame c.args.target).told told in
+    let told_d : IsTrue (g.T.Twin.both c.write_at.new.self).told = rw c.write_at.ensures.frame.told told_b in
+    synced_put c.args.target c.args.at c.args.bytes.now _ _ _ _ (c.requires.at_rest told) c.reserve.ensures.disk (c.reserve.ensures.content told) _ _ c.write_at.result (c.write_at.ensures.content told_b) c.write_at.ensures.other_half _ _ (c.sync.ensures.content told_d) c.sync.ensures.other_half
 
 pub returns-clause-holds : goal.returns-clause-holds
 returns-clause-holds g c = λ told.
