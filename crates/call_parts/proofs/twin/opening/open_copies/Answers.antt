@@ -1,4 +1,4 @@
-use Rattle.std.proofs.Common.{Err, ap, refl}
+use Rattle.std.proofs.Common.{Err, ap}
 use Rattle.call_parts.specs.declared.error.CopiesError.{CopiesError}
 use Rattle.call_parts.proofs.twin.opening.open_copies.Goals as goal
 

@@ -193,26 +193,26 @@ returns-clause-any_moment g c = λ told rest t starts.
 
 pub returns-in_err-store-clause-refused : goal.returns-in_err-store-clause-refused
 returns-in_err-store-clause-refused g c = λ is told.
-    let a = g.T.Twin.both c.args.twin.now in
-    (subst (λ (m : Option Half). IfNone m (IsTrue a.told → MayOpen c.args.alone a)) c.in_default.is c.in_ok-half.ensures.none told,
-    same_files (g.T.Twin.both c.args.twin.now) (g.T.Twin.both c.find_missing.new.twin) (λ (p q : List ℕ). IsRefusedTwo c.args.generation.now c.args.fingerprint.now p q) (c.find_missing.ensures.rests told).files
-    (c.in_err-store.ensures.refused (files_same _ _ c.from_residual-in_err-store.result c.in_err-store.field-0.0 to.NotKdcfile c.from_residual-in_err-store.ensures.1 is) (subst IsTrue (sym c.find_missing.ensures.frame.told) told)),
+    let a = g.T.Twin.both c.args.twin.now in (
+      subst (λ (m : Option Half). IfNone m (IsTrue a.told → MayOpen c.args.alone a)) c.in_default.is c.in_ok-half.ensures.none told,
+      same_files (g.T.Twin.both c.args.twin.now) (g.T.Twin.both c.find_missing.new.twin) (λ (p q : List ℕ). IsRefusedTwo c.args.generation.now c.args.fingerprint.now p q) (c.find_missing.ensures.rests told).files
+          (c.in_err-store.ensures.refused (files_same _ _ c.from_residual-in_err-store.result c.in_err-store.field-0.0 to.NotKdcfile c.from_residual-in_err-store.ensures.1 is) (subst IsTrue (sym c.find_missing.ensures.frame.told) told)),
     )
 
 pub returns-in_err-store-clause-other : goal.returns-in_err-store-clause-other
 returns-in_err-store-clause-other g c = λ stored is told.
-    let a = g.T.Twin.both c.args.twin.now in
-    (subst (λ (m : Option Half). IfNone m (IsTrue a.told → MayOpen c.args.alone a)) c.in_default.is c.in_ok-half.ensures.none told,
-    same_files (g.T.Twin.both c.args.twin.now) (g.T.Twin.both c.find_missing.new.twin) (λ (p q : List ℕ). IsTwoOfOtherTexts stored c.args.fingerprint.now p q) (c.find_missing.ensures.rests told).files
-    (c.in_err-store.ensures.other stored (files_same _ _ c.from_residual-in_err-store.result c.in_err-store.field-0.0 (to.OtherGeneration stored) c.from_residual-in_err-store.ensures.1 is) (subst IsTrue (sym c.find_missing.ensures.frame.told) told)),
+    let a = g.T.Twin.both c.args.twin.now in (
+      subst (λ (m : Option Half). IfNone m (IsTrue a.told → MayOpen c.args.alone a)) c.in_default.is c.in_ok-half.ensures.none told,
+      same_files (g.T.Twin.both c.args.twin.now) (g.T.Twin.both c.find_missing.new.twin) (λ (p q : List ℕ). IsTwoOfOtherTexts stored c.args.fingerprint.now p q) (c.find_missing.ensures.rests told).files
+          (c.in_err-store.ensures.other stored (files_same _ _ c.from_residual-in_err-store.result c.in_err-store.field-0.0 (to.OtherGeneration stored) c.from_residual-in_err-store.ensures.1 is) (subst IsTrue (sym c.find_missing.ensures.frame.told) told)),
     )
 
 pub returns-in_err-store-clause-spent : goal.returns-in_err-store-clause-spent
 returns-in_err-store-clause-spent g c = λ n is told.
-    let a = g.T.Twin.both c.args.twin.now in
-    (subst (λ (m : Option Half). IfNone m (IsTrue a.told → MayOpen c.args.alone a)) c.in_default.is c.in_ok-half.ensures.none told,
-    same_files (g.T.Twin.both c.args.twin.now) (g.T.Twin.both c.find_missing.new.twin) (λ (p q : List ℕ). IsSpent c.args.generation.now c.args.fingerprint.now n p q) (c.find_missing.ensures.rests told).files
-    (c.in_err-store.ensures.spent n (files_same _ _ c.from_residual-in_err-store.result c.in_err-store.field-0.0 (to.Spent n) c.from_residual-in_err-store.ensures.1 is) (subst IsTrue (sym c.find_missing.ensures.frame.told) told)),
+    let a = g.T.Twin.both c.args.twin.now in (
+      subst (λ (m : Option Half). IfNone m (IsTrue a.told → MayOpen c.args.alone a)) c.in_default.is c.in_ok-half.ensures.none told,
+      same_files (g.T.Twin.both c.args.twin.now) (g.T.Twin.both c.find_missing.new.twin) (λ (p q : List ℕ). IsSpent c.args.generation.now c.args.fingerprint.now n p q) (c.find_missing.ensures.rests told).files
+          (c.in_err-store.ensures.spent n (files_same _ _ c.from_residual-in_err-store.result c.in_err-store.field-0.0 (to.Spent n) c.from_residual-in_err-store.ensures.1 is) (subst IsTrue (sym c.find_missing.ensures.frame.told) told)),
     )
 
 pub returns-in_err-store-clause-failed : goal.returns-in_err-store-clause-failed
