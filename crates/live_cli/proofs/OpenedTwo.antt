@@ -271,7 +271,7 @@ module _ (e : Errand) (base : List ℕ) (alone : Bool) (j : TypingState) (a m : 
     -- to the end of the input
     pub typed_out : (IsTrue m.told → LivedTwice (identity_of_two e) s (begun e t) j m b lm lb (Ok tt)) → FineTwice s m b → j'.faults ≡ j.faults → DoesLiveTwo e base alone (Ok tt) j j' a b la lb
     typed_out lived on_fine heard = record {
-      opened = λ told. (t, may_open told, opens told);
+      opened = λ told. (t, (may_open told, opens told));
       missing = λ half is. absurd cc;
       refused = λ q is. absurd cc;
       four = λ q is. absurd cc;

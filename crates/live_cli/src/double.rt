@@ -180,8 +180,14 @@ fn over_copies<T: Twin, I: Typing>(
     ensures { DoesLiveTwo (gen_errand work) base.now alone result (I.typing typing.old) (I.typing typing.new) (T.both twin.old) (T.both twin.new) (T.leaves twin.old) (T.leaves twin.new) }
 {
     let generation = &work.application.generation;
-    let (store, tables) =
-        open_unless_missing(alloc, twin, base, generation, &work.fingerprint, alone)?;
+    let (store, tables) = open_unless_missing(
+        alloc,
+        twin,
+        base,
+        generation,
+        &work.fingerprint,
+        alone,
+    )?;
     Ok(live_copies(alloc, twin, store, tables, work, typing)?)
 }
 
