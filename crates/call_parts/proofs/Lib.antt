@@ -13,3 +13,4 @@ pub mod EmittedLines
 pub mod MadeReading
 pub mod MadeLines
 pub mod OneHalf
+pub mod Missing

@@ -8,9 +8,10 @@ use Rattle.device_acts.specs.Said.{Said, SaidPart}
 use Rattle.refusals.specs.Lines.{file_line, refusal_line}
 use Rattle.refusals.specs.Statuses.{IsOneOf, status_of, status_of_file}
 use Rattle.call_parts.specs.LeavingTwo.{FrameTwin, SaidTwo, SameNamesTwo, SaysPartTwo}
+use Rattle.call_parts.specs.Missing.{missing_line}
 use Rattle.call_parts.specs.Words.{live_usage_line, usage_line}
 use Rattle.call_parts.specs.declared.refusing.Cause.{Cause}
-use Rattle.call_parts.specs.declared.refusing.Cause.TheVariants.{Words, OneBase, Texts, Files}
+use Rattle.call_parts.specs.declared.refusing.Cause.TheVariants.{Words, OneBase, Texts, Missing, Files}
 
 -- a call over a device that sends this line and answers this status ended so: it did, or the line failed, or memory ran out; nothing else was done
 pub record SendsRefusal (status : ℕ) (line : List ℕ) (a b : State) (ended : ℕ) : Type 0 where
@@ -38,6 +39,7 @@ abbrev pub line_for : Cause → List ℕ
 line_for Words = usage_line
 line_for OneBase = live_usage_line
 line_for (Texts why) = refusal_line why
+line_for (Missing half) = missing_line half
 line_for (Files why) = file_line why
 
 -- its status
@@ -45,4 +47,5 @@ abbrev pub status_for : Cause → ℕ
 status_for Words = 1
 status_for OneBase = 1
 status_for (Texts why) = status_of why
+status_for (Missing half) = 4
 status_for (Files why) = status_of_file why

@@ -7,6 +7,7 @@ pub mod Opening
 pub mod Leaving
 pub mod LeavingTwo
 pub mod OpeningTwo
+pub mod Missing
 pub mod Beside
 pub mod MadeTexts
 pub mod MadeReport

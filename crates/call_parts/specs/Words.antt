@@ -106,6 +106,31 @@ base_of [] = None
 base_of (base ∷ []) = base_by (is_base base) base
 base_of (base ∷ more ∷ rest) = None
 
+-- ---- the words of `live`
+
+abbrev pub live_by : (base alone : Bool) → List ℕ → Option (List ℕ)
+live_by true true base = Some base
+live_by true false base = None
+live_by false alone base = None
+
+abbrev pub is_alone : List ℕ → Bool
+is_alone word = same word (codes "--alone")
+
+-- the BASE of `BASE [--alone]`
+abbrev pub live_base_of : List (List ℕ) → Option (List ℕ)
+live_base_of [] = None
+live_base_of (base ∷ []) = base_by (is_base base) base
+live_base_of (base ∷ option ∷ []) = live_by (is_base base) (is_alone option) base
+live_base_of (base ∷ option ∷ more ∷ rest) = None
+
+-- a copy is taken alone
+abbrev pub takes_alone : List (List ℕ) → Bool
+takes_alone [] = false
+takes_alone (base ∷ []) = false
+takes_alone (base ∷ option ∷ rest) = is_alone option
+
+-- ---- names
+
 -- the name of the definition's text
 abbrev pub definition_name : List ℕ → List ℕ
 definition_name base = base ++ codes ".def"
@@ -130,6 +155,6 @@ file_name base = base ++ codes ".KDCA"
 abbrev pub usage_line : List ℕ
 usage_line = codes "USAGE: utm gen BASE, run BASE, show BASE, update BASE, trail BASE, audit BASE, make N\n"
 
--- status 1 of a call whose words are to be one BASE alone
+-- status 1 of a call whose words are to be one BASE with its option
 abbrev pub live_usage_line : List ℕ
-live_usage_line = codes "USAGE: live BASE\n"
+live_usage_line = codes "USAGE: live BASE [--alone]\n"

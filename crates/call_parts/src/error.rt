@@ -1,11 +1,13 @@
 //! Why a call did not do what is asked for.
 ghost use Rattle.std.specs.Prelude.{◌≡◌};
+ghost use Rattle.kdcfile_double.specs.Causes.{of_device as of_disk};
 ghost use Rattle.call_parts.specs.Causes.{of_carry, of_device, of_open, of_twin};
 ghost use Rattle.call_parts.specs.declared.error.CallError.TheVariants as errors;
+ghost use Rattle.call_parts.specs.declared.error.CopiesError.TheVariants as copies;
 
 use device_acts::warm_start::OpenError;
 use kd_base::OutOfMemory;
-use kd_device::DeviceError;
+use kd_device::{DeviceError, Half};
 use kd_update::UpdateError;
 use kdcfile_double::TwinOpenError;
 use kdcfile_update::CarryError;
@@ -22,6 +24,33 @@ pub enum CallError {
     Failed,
     #[error("out of memory")]
     Memory,
+}
+
+/// Why the two files of a BASE were not opened.
+#[derive(Clone, Copy)]
+pub enum CopiesError {
+    /// The file of this half is empty or not there, beside a copy with commits, which was not to be taken alone.
+    Missing(Half),
+    Files(TwinOpenError),
+}
+
+impl From<DeviceError> for CopiesError {
+    ghost from_gives = { λ e r. r ≡ copies.Files (of_disk e) };
+
+    fn from(e: DeviceError) -> Self {
+        match e {
+            DeviceError::Failed => CopiesError::Files(TwinOpenError::Failed),
+            DeviceError::Memory => CopiesError::Files(TwinOpenError::Memory),
+        }
+    }
+}
+
+impl From<TwinOpenError> for CopiesError {
+    ghost from_gives = { λ e r. r ≡ copies.Files e };
+
+    fn from(e: TwinOpenError) -> Self {
+        CopiesError::Files(e)
+    }
 }
 
 impl From<OutOfMemory> for CallError {

@@ -21,12 +21,14 @@ mod twin;
 mod words;
 
 pub use errand::{Asked, Looking, OneFile, Storing, Task, TwoFiles, Work};
-pub use error::CallError;
+pub use error::{CallError, CopiesError};
 pub use generation_report::report;
 pub use lawful::{texts_can_run, texts_of_two_can_run};
 pub use made_input::made_report_lines;
 pub use opening::{attach, look, open};
 pub use reading::read_texts;
-pub use refusing::{Cause, refuse_for};
-pub use twin::{attach_both, look_at_copies, open_copies, refuse_beside};
-pub use words::{Word, base_of, request_of};
+pub use refusing::{Cause, missing_line, refuse_for};
+pub use twin::{
+    attach_both, find_missing, look_at_copies, open_copies, open_unless_missing, refuse_beside,
+};
+pub use words::{Word, base_of, live_of, request_of};

@@ -2,7 +2,7 @@
 ghost use Rattle.std.specs.{Prelude.{◌≡◌, map, codes, MatchOption, IfSome, None, Some}, String.{string_bytes}};
 ghost use Rattle.kd_base.specs.Text.{decimal_of};
 ghost use Rattle.script_read.specs.Script.{same};
-ghost use Rattle.call_parts.specs.Words.{IsForm, base_of as base_spelled, request_of as request, word_of as word_spelled, word_with, is_base, made_input};
+ghost use Rattle.call_parts.specs.Words.{IsForm, base_of as base_spelled, live_base_of, request_of as request, word_of as word_spelled, word_with, is_alone, is_base, made_input, takes_alone};
 
 use kd_base::decimal_of;
 
@@ -109,6 +109,36 @@ pub fn base_of(words: &[String]) -> Option<&[u8]>
         [base] => {
             let base = base.as_bytes();
             if is_base(base) { Some(base) } else { None }
+        }
+        _ => None,
+    }
+}
+
+// Whether the word after a BASE is the option.
+#[tactic(auto, using(script_read::specs::SameLaws::same_texts))]
+fn is_alone(word: &[u8]) -> bool
+    ensures { result ≡ is_alone word.now }
+{
+    word == b"--alone".as_slice()
+}
+
+/// The BASE of `BASE [--alone]`, which has 1 to 200 bytes, and whether a copy is taken alone.
+pub fn live_of(words: &[String]) -> Option<(&[u8], bool)>
+    ensures base { MatchOption result (live_base_of (map string_bytes words.now) ≡ None) (λ r. live_base_of (map string_bytes words.now) ≡ Some r.0.now) }
+    ensures alone { IfSome result (λ r. takes_alone (map string_bytes words.now) ≡ r.1) }
+{
+    match words {
+        [_base] => match base_of(words) {
+            Some(base) => Some((base, false)),
+            None => None,
+        },
+        [base, option] => {
+            let base = base.as_bytes();
+            if is_base(base) && is_alone(option.as_bytes()) {
+                Some((base, true))
+            } else {
+                None
+            }
         }
         _ => None,
     }

@@ -5,6 +5,5 @@ pub mod Asked
 pub mod Asks
 pub mod Carried
 pub mod Carries
-pub mod Lacking
 pub mod Over
 pub mod BackingUp

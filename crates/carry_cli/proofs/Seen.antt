@@ -87,7 +87,7 @@ sound_if seen.Foreign h = tt
 sound_if (seen.Single store) h = tt
 sound_if (seen.Copy c) h = h
 
-pub has_copy : (s : Seen) (bytes : List ℕ) → IsSeen s bytes → HasCopy (copy_of s) bytes
+has_copy : (s : Seen) (bytes : List ℕ) → IsSeen s bytes → HasCopy (copy_of s) bytes
 has_copy seen.Empty bytes h = subst (λ (l : List ℕ). IsNoCopy l) (sym h) nothing_is_no_copy
 has_copy seen.Shut bytes h = (seen_answer seen.Shut bytes h).1
 has_copy seen.Foreign bytes h = (seen_answer seen.Foreign bytes h).1

@@ -1,13 +1,8 @@
 -- What becomes of the files of a BASE that is carried.
 use Rattle.std.specs.Prelude.{◌≡◌, ◌⊎◌, ℕ, true, false, List, [], ◌++◌, take}
-use Rattle.kd_device.specs.Twin.{Both, other}
-use Rattle.kd_device.specs.declared.half.Half.{Half}
-use Rattle.kd_records.specs.Identity.{Identity}
-use Rattle.kd_records.specs.declared.content.Content.{Content}
+use Rattle.kd_device.specs.Twin.{Both}
 use Rattle.kdcs_types.specs.declared.act.Row.{Row}
 use Rattle.application_types.specs.Generation.{Generated}
-use Rattle.kdcfile_copies.specs.Beside.{file_of}
-use Rattle.kdcfile_copies.specs.Copies.{IsCopyOf}
 use Rattle.kdcfile_double.specs.Opening.{SameFiles}
 use Rattle.kdcfile_double.specs.Twice.{NoneRose}
 use Rattle.kd_update.specs.Carrying.{carried, dropped}
@@ -17,6 +12,7 @@ use Rattle.kdcfile_carry.specs.Losing.{rows_gone}
 use Rattle.kdcfile_carry.specs.Promise.{StandNow}
 use Rattle.kdcfile_carry.specs.Ways.{AreRefusedAs, AreSpent, IsUpToDate, MayCarry, carried_files, files_after}
 use Rattle.call_parts.specs.Asking.{Errand}
+use Rattle.call_parts.specs.Missing.{IsMissing, NoneMissingUnless}
 use Rattle.carry_cli.specs.Telling.{answer_text}
 use Rattle.carry_cli.specs.declared.answer.Answer.{Answer}
 use Rattle.carry_cli.specs.declared.answer.Answer.TheVariants as answer
@@ -28,18 +24,9 @@ use Rattle.carry_cli.specs.declared.words.Options.{Options}
 abbrev pub generation_of : Errand → Generated
 generation_of e = e.application.generation
 
--- a copy that a commit has changed since it was made
-abbrev pub HasCommits : List ℕ → Type 0
-HasCommits bytes = (i : Identity) × (n : ℕ) × (x : Content) × IsCopyOf i n x bytes × (n ≡ 0 → ⊥)
-
--- the file of this half is empty, and the other one has a copy with commits; beside one without any it is one that was not made yet
-pub record IsMissing (half : Half) (p q : List ℕ) : Type 0 where
-  pub empty : file_of half p q ≡ []
-  pub copy : HasCommits (file_of (other half) p q)
-
 -- no file is missing, unless a copy is taken alone
 abbrev pub NoneIsMissing : Options → (p q : List ℕ) → Type 0
-NoneIsMissing o p q = (half : Half) → IsMissing half p q → o.alone ≡ true
+NoneIsMissing o p q = NoneMissingUnless o.alone p q
 
 -- why two files are not carried: one is missing; or none is, and they are those of no application, or may not be carried
 abbrev pub Hinders : Errand → Options → (p q : List ℕ) → Hindrance → Type 0

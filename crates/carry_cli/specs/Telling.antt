@@ -10,6 +10,7 @@ use Rattle.kd_update.specs.declared.error.UpdateError.{UpdateError}
 use Rattle.kd_update.specs.declared.error.UpdateError.TheVariants as cause
 use Rattle.refusals.specs.Lines.{file_line}
 use Rattle.refusals.specs.declared.error.FileRefusal.TheVariants as file
+use Rattle.call_parts.specs.Missing.{missing_line}
 use Rattle.carry_cli.specs.Rows.{rows_text}
 use Rattle.carry_cli.specs.declared.answer.Answer.{Answer}
 use Rattle.carry_cli.specs.declared.answer.Answer.TheVariants as answer
@@ -29,10 +30,6 @@ lost_text (Some Second) = codes "COPY B LOST\n"
 -- how many rows would go
 abbrev pub would_drop_line : ℕ → List ℕ
 would_drop_line n = codes "WOULD DROP " ++ (decimal n ++ codes "\n")
-
-abbrev pub missing_line : Half → List ℕ
-missing_line First = codes "KDCFILE COPY A IS MISSING\n"
-missing_line Second = codes "KDCFILE COPY B IS MISSING\n"
 
 -- the lines of `update`; want of memory has none
 abbrev pub judged_line : UpdateError → List ℕ

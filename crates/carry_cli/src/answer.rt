@@ -1,10 +1,11 @@
 //! What becomes of the files of a BASE that is carried, in lines.
 ghost use Rattle.std.specs.{Prelude.{◌≡◌, ◌++◌, IfOk}, String.{string_bytes}};
 ghost use Rattle.kdcfile_update.specs.Report.{dropped_line, up_to_date_line, update_line};
-ghost use Rattle.carry_cli.specs.Telling.{answer_status, answer_text, hindrance_line, judged_line, lost_text, missing_line, report_text, would_drop_line};
+ghost use Rattle.carry_cli.specs.Telling.{answer_status, answer_text, hindrance_line, judged_line, lost_text, report_text, would_drop_line};
 
 use crate::row_lines::rows_text;
 use application_types::generation::Generation;
+use call_parts::missing_line;
 use kd_base::{Bytes, OutOfMemory};
 use kd_device::Half;
 use kd_update::{Dropped, UpdateError};
@@ -87,15 +88,6 @@ fn lost_text(lost: Option<Half>) -> &'static [u8]
         None => b"",
         Some(Half::First) => b"COPY A LOST\n",
         Some(Half::Second) => b"COPY B LOST\n",
-    }
-}
-
-fn missing_line(half: Half) -> &'static str
-    ensures { result.now ≡ missing_line half }
-{
-    match half {
-        Half::First => "KDCFILE COPY A IS MISSING\n",
-        Half::Second => "KDCFILE COPY B IS MISSING\n",
     }
 }
 

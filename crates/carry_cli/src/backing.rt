@@ -8,8 +8,7 @@ ghost use Rattle.carry_cli.specs.{BackingUp.{EndsBackupOver, IsBackup, LeavesBac
 
 use crate::answer::{Hindrance, hindrance_line};
 use crate::carrying::hindrance_of;
-use crate::missing::find_missing;
-use call_parts::Work;
+use call_parts::{Work, find_missing};
 use kd_device::{Device, DeviceError, Twin};
 use kdcfile_carry::{BackUpError, FilesError, back_up};
 use kdcfile_copies::kdcfile_halves::say_both;

@@ -8,9 +8,8 @@ ghost use Rattle.call_parts.specs.{Asking.{update_errand}, LeavingTwo.{FrameTwin
 ghost use Rattle.carry_cli.specs.{Carrying.{NoneIsMissing, generation_of}, Doing.{IsNow, hindered_by, hindrance_of, judged_as}, Promise.{EndsOver}};
 
 use crate::answer::{Answer, Hindrance};
-use crate::missing::find_missing;
 use crate::words::Options;
-use call_parts::Work;
+use call_parts::{Work, find_missing};
 use kd_device::{DeviceError, Half, Twin};
 use kdcfile_carry::{Alike, Carried, FilesError, Losses, Would, carry_files, would_carry};
 use kdcfile_copies::kdcfile_halves::say_both;

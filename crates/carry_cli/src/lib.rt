@@ -20,7 +20,6 @@ mod kinds;
 mod laws;
 mod lines;
 mod making;
-mod missing;
 mod next;
 mod row_lines;
 mod seeing;

@@ -1,5 +1,5 @@
 -- A call of typed lines, from what its parts did.
-use Rattle.std.proofs.Common.{◌≡◌, ◌≤◌, ◌∙◌, inl, inr, ⊎_elim, refl, ℕ, List, [], ◌∷◌, Some, Ok, Err, map, subst, sym, arith}
+use Rattle.std.proofs.Common.{◌≡◌, ◌≤◌, ◌∙◌, inl, inr, ⊎_elim, refl, ℕ, Bool, List, [], ◌∷◌, Some, Ok, Err, map, subst, sym, arith}
 use Rattle.std.specs.Prelude.{IsTrue}
 use Rattle.std.proofs.lemmas.Bool.Decides.{nat_tests}
 use Rattle.std.proofs.lemmas.Option.{same_Some}
@@ -15,7 +15,7 @@ use Rattle.call_parts.specs.Asking.{AreThere, CanRun, Errand, Reading, ReadsFor,
 use Rattle.call_parts.specs.Beside.{SendsRefusal}
 use Rattle.call_parts.specs.Leaving.{MayAttach}
 use Rattle.call_parts.specs.Requests.{Lacks}
-use Rattle.call_parts.specs.Words.{base_of, definition_name, file_name, live_usage_line, units_name}
+use Rattle.call_parts.specs.Words.{definition_name, file_name, live_base_of, live_usage_line, takes_alone, units_name}
 use Rattle.call_parts.specs.declared.errand.OneFile.{OneFile}
 use Rattle.call_parts.specs.declared.errand.OneFile.TheVariants as file
 use Rattle.call_parts.specs.declared.errand.Task.TheVariants as task
@@ -68,13 +68,16 @@ idle_none n h is = grind (arith, nat_tests)
 -- ---- the words
 
 -- as they were handed on
-pub asked_base : {S : Type 0} (bytes : S → List ℕ) (given own : List S) (base : List ℕ) → given ≡ own → base_of (map bytes given) ≡ Some base → base_of (map bytes own) ≡ Some base
-asked_base {S} bytes given own base is asked = subst (λ (l : List S). base_of (map bytes l) ≡ Some base) is asked
+pub asked_base : {S : Type 0} (bytes : S → List ℕ) (given own : List S) (base : List ℕ) → given ≡ own → live_base_of (map bytes given) ≡ Some base → live_base_of (map bytes own) ≡ Some base
+asked_base {S} bytes given own base is asked = subst (λ (l : List S). live_base_of (map bytes l) ≡ Some base) is asked
+
+pub asked_alone : {S : Type 0} (bytes : S → List ℕ) (given own : List S) (alone : Bool) → given ≡ own → takes_alone (map bytes given) ≡ alone → alone ≡ takes_alone (map bytes own)
+asked_alone {S} bytes given own alone is asked = sym (subst (λ (l : List S). takes_alone (map bytes l) ≡ alone) is asked)
 
 pub asked_none : {S : Type 0} (bytes : S → List ℕ) (given own : List S) → given ≡ own → IsNoBase (map bytes given) → IsNoBase (map bytes own)
 asked_none {S} bytes given own is none = subst (λ (l : List S). IsNoBase (map bytes l)) is none
 
-pub some_base : (words : List (List ℕ)) (base : List ℕ) → base_of words ≡ Some base → IsNoBase words → ⊥
+pub some_base : (words : List (List ℕ)) (base : List ℕ) → live_base_of words ≡ Some base → IsNoBase words → ⊥
 some_base words base asked none = let differ = sym none ∙ asked in cc
 
 -- what `gen` asks for over one file
@@ -117,8 +120,8 @@ usage_call words r i none a b la lb status h = record {
 
 -- ---- they are one BASE
 
-module _ (words : List (List ℕ)) (r r' : RoomState) (base : List ℕ) (asked : base_of words ≡ Some base) (same : SameRoom r r') where
-  pub same_base : (b : List ℕ) → base_of words ≡ Some b → b ≡ base
+module _ (words : List (List ℕ)) (r r' : RoomState) (base : List ℕ) (asked : live_base_of words ≡ Some base) (same : SameRoom r r') where
+  pub same_base : (b : List ℕ) → live_base_of words ≡ Some b → b ≡ base
   same_base b is = same_Some b base (sym is ∙ asked)
 
   reads_of : (said : Reading) → ReadsFor Gen base r said → LiveReads words r said
@@ -149,7 +152,7 @@ module _ (words : List (List ℕ)) (r r' : RoomState) (base : List ℕ) (asked :
     ok_not : IsTrue r.told → (why : Refusal) → LiveReads words r (Err why) → ⊥
     ok_not told why said = let differ = one_said told (Err why) said in cc
 
-    ends_said : IsTrue r.told → (f : Errand) → LiveReads words r (Ok f) → (b' : List ℕ) → base_of words ≡ Some b' → EndsLive f b' i j a b la lb status
+    ends_said : IsTrue r.told → (f : Errand) → LiveReads words r (Ok f) → (b' : List ℕ) → live_base_of words ≡ Some b' → EndsLive f b' i j a b la lb status
     ends_said told f said b' is =
         let one = one_said told (Ok f) said in
         let own : e ≡ f = cc in

@@ -1,5 +1,5 @@
 -- A call of typed lines over two disks, from what its parts did.
-use Rattle.std.proofs.Common.{◌≡◌, inl, inr, ⊎_elim, refl, ℕ, List, [], ◌∷◌, Some, Ok, ap, subst, sym, ◌∙◌, arith}
+use Rattle.std.proofs.Common.{◌≡◌, inl, inr, ⊎_elim, refl, ℕ, Bool, List, [], ◌∷◌, Some, Ok, ap, subst, sym, ◌∙◌, arith}
 use Rattle.std.specs.Prelude.{IsTrue}
 use Rattle.std.proofs.lemmas.Bool.Decides.{nat_tests}
 use Rattle.kd_device.specs.Room.{RoomState, SameRoom}
@@ -11,7 +11,7 @@ use Rattle.call_parts.specs.Asking.{Errand, Reading, ReadsForTwo}
 use Rattle.call_parts.specs.Leaving.{MayAttach}
 use Rattle.call_parts.specs.LeavingTwo.{FrameTwin, MayAttachTwo}
 use Rattle.call_parts.specs.Requests.{Lacks}
-use Rattle.call_parts.specs.Words.{base_of, file_name}
+use Rattle.call_parts.specs.Words.{file_name, live_base_of, takes_alone}
 use Rattle.call_parts.specs.declared.words.Word.TheVariants.{Gen}
 use Rattle.call_ends.specs.SaidLaws.{none_failed, same_frame}
 use Rattle.live_run.specs.Typing.{TypingState}
@@ -59,7 +59,7 @@ two_texts n h = grind (arith, nat_tests)
 idle_texts : (n : ℕ) → IsOneOf (6 ∷ 7 ∷ []) n → IsOneOf (0 ∷ 4 ∷ 5 ∷ 6 ∷ 7 ∷ []) n
 idle_texts n h = grind (arith, nat_tests)
 
-module _ (words : List (List ℕ)) (r r' : RoomState) (base : List ℕ) (asked : base_of words ≡ Some base) (same : SameRoom r r') where
+module _ (words : List (List ℕ)) (r r' : RoomState) (base : List ℕ) (asked : live_base_of words ≡ Some base) (same : SameRoom r r') where
   -- what was read of two copies, whichever BASE it is said of
   pub read_two : (said : Reading) → LiveReadsTwo words r said → ReadsForTwo Gen base r said
   read_two said h = subst (λ (b : List ℕ). ReadsForTwo Gen b r said) (same_base words r r' base asked same h.base h.asked) h.reads
@@ -72,16 +72,19 @@ module _ (words : List (List ℕ)) (r r' : RoomState) (base : List ℕ) (asked :
       by (inr none) = let differ = sym h.there.units_is ∙ none in cc
 
   -- the texts make an application of two copies
-  module _ (fine : NoReadFailed r r') (e : Errand) (found : IsTrue r.told → ReadsForTwo Gen base r (Ok e)) (alone : IsTrue r.told → (said : Reading) → ReadsForTwo Gen base r said → said ≡ Ok e) (i j : TypingState) (a b : Both) (la lb : ℕ → List ℕ → List ℕ → List ℕ → Type 0) (status : ℕ) (h : EndsLiveTwo e base i j a b la lb status) where
+  module _ (fine : NoReadFailed r r') (e : Errand) (found : IsTrue r.told → ReadsForTwo Gen base r (Ok e)) (alone : IsTrue r.told → (said : Reading) → ReadsForTwo Gen base r said → said ≡ Ok e) (i j : TypingState) (a b : Both) (la lb : ℕ → List ℕ → List ℕ → List ℕ → Type 0) (status : ℕ) (option : Bool) (is_option : option ≡ takes_alone words) (h : EndsLiveTwo e base option i j a b la lb status) where
+    own_ends : EndsLiveTwo e base (takes_alone words) i j a b la lb status
+    own_ends = subst (λ (x : Bool). EndsLiveTwo e base x i j a b la lb status) is_option h
+
     not_single : IsSingleLive words r → ⊥
     not_single (inl none) = some_base words base asked none
     not_single (inr one) = one.1 (Ok e) (record { base = base; asked = asked; reads = found one.0 })
 
-    ends_said : IsTrue r.told → (f : Errand) → LiveReadsTwo words r (Ok f) → (b' : List ℕ) → base_of words ≡ Some b' → EndsLiveTwo f b' i j a b la lb status
+    ends_said : IsTrue r.told → (f : Errand) → LiveReadsTwo words r (Ok f) → (b' : List ℕ) → live_base_of words ≡ Some b' → EndsLiveTwo f b' (takes_alone words) i j a b la lb status
     ends_said told f said b' is =
         let one = alone told (Ok f) (read_two (Ok f) said) in
         let own : e ≡ f = cc in
-        subst (λ (x : Errand). EndsLiveTwo x b' i j a b la lb status) own (subst (λ (n : List ℕ). EndsLiveTwo e n i j a b la lb status) (sym (same_base words r r' base asked same b' is)) h)
+        subst (λ (x : Errand). EndsLiveTwo x b' (takes_alone words) i j a b la lb status) own (subst (λ (n : List ℕ). EndsLiveTwo e n (takes_alone words) i j a b la lb status) (sym (same_base words r r' base asked same b' is)) own_ends)
 
     pub double_call : AnswersLiveTwo (live_twin_call words r a i) r' j b la lb status
     double_call = record {

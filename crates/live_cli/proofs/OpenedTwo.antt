@@ -1,5 +1,5 @@
 -- Typed lines over two copies, after the opening of both files: a is the twin at the call, m after the opening, and b at the end.
-use Rattle.std.proofs.Common.{◌≡◌, ◌≤◌, ◌⊎◌, ◌∙◌, ◌++◌, inl, inr, ⊎_elim, refl, ℕ, List, [], Some, None, Err, ap, subst, sym, arith}
+use Rattle.std.proofs.Common.{◌≡◌, ◌≤◌, ◌⊎◌, ◌∙◌, ◌++◌, inl, inr, ⊎_elim, refl, ℕ, Bool, false, List, [], Some, None, Err, ap, subst, sym, arith}
 use Rattle.std.specs.Prelude.{IsErrAnd, IsErrOf, IsTrue, OnOk, Result, Ok}
 use Rattle.kd_base.specs.ToolsLaws.{err_is}
 use Rattle.application_types.specs.Soundness.{AreLimits}
@@ -17,7 +17,6 @@ use Rattle.laws_of_states.specs.Suits.{Suits}
 use Rattle.kdcfile_double.specs.Mended.{BothRest}
 use Rattle.kdcfile_double.specs.Opening.{IsRefusedTwo, IsSpent, IsTwoOfOtherTexts, KeepsTablesTwice, identity_twice}
 use Rattle.kdcfile_double.specs.Twice.{FineTwice, IsInUse, IsOpen, RoseAt, SameFaultsAt, Twice, identity_of}
-use Rattle.kdcfile_double.specs.declared.error.TwinOpenError.{TwinOpenError}
 use Rattle.kdcfile_double.specs.declared.error.TwinOpenError.TheVariants as opening
 use Rattle.monitor_core.specs.CoreSteps.{durable_of}
 use Rattle.monitor_core.specs.CoreValue.{CoreValue}
@@ -29,9 +28,12 @@ use Rattle.refusals.specs.declared.error.FileRefusal.{FileRefusal}
 use Rattle.refusals.specs.declared.error.FileRefusal.TheVariants as why
 use Rattle.call_parts.specs.Asking.{Errand, app_of}
 use Rattle.call_parts.specs.LeavingTwo.{AttachesBoth, FineTwo, FrameTwin, MayAttachTwo, WasBehind}
-use Rattle.call_parts.specs.Opening.{OpeningRefusesTwo, OpensTwo, identity_of_two}
+use Rattle.call_parts.specs.Missing.{IsMissing, MayOpen}
+use Rattle.call_parts.specs.Opening.{OpensTwo, identity_of_two}
 use Rattle.call_parts.specs.OpeningTwo.{LeavesOpeningTwo, StaysAsItIs}
 use Rattle.call_parts.specs.TwoAnswersLaws.{started_two_once}
+use Rattle.call_parts.specs.declared.error.CopiesError.{CopiesError}
+use Rattle.call_parts.specs.declared.error.CopiesError.TheVariants as copies
 use Rattle.call_parts.proofs.HandedOn.{given, handed}
 use Rattle.live_run.specs.Sessions.{AreAnswered, Exchange}
 use Rattle.live_run.specs.Talking.{EachInTurn, acts_of_session}
@@ -40,11 +42,11 @@ use Rattle.live_run.specs.Typing.{SameTyping, TypingState}
 use Rattle.live_run.specs.declared.error.LiveError.{LiveError}
 use Rattle.live_run.specs.declared.error.LiveError.TheVariants as live
 use Rattle.live_cli.specs.Causes.{of_live, of_opening}
-use Rattle.live_cli.specs.EndsTwo.{DoesLiveTwo}
+use Rattle.live_cli.specs.EndsTwo.{BeginsTwo, DoesLiveTwo, RefusesTwoLive}
 use Rattle.live_cli.specs.Living.{acts_lived, begun}
 use Rattle.live_cli.specs.LivingTwo.{IsSparedSince, LivedTwice, LivedWholeTwo, MayLoseSince, ReadInTurnTwo, acts_since, tables_then}
 use Rattle.live_cli.specs.declared.error.SessionError.{SessionError}
-use Rattle.live_cli.specs.declared.error.SessionError.TheVariants.{Refused, Failed, Input}
+use Rattle.live_cli.specs.declared.error.SessionError.TheVariants.{Missing, Refused, Failed, Input}
 use Rattle.live_cli.proofs.Begun.{core_is, durable_begun, none_ok}
 use Rattle.live_cli.proofs.Bracketed.{may_lose_more}
 
@@ -83,12 +85,13 @@ same_typing j = record { told = refl; types = refl }
 reason_is : (r q : FileRefusal) → Refused r ≡ Refused q → q ≡ r
 reason_is r q same = cc
 
-four_opening : (x : TwinOpenError) (q : FileRefusal) → of_opening x ≡ Refused q → status_of_file q ≡ 4
-four_opening opening.NotKdcfile q is = ap status_of_file (reason_is why.NotKdcfile q is)
-four_opening (opening.OtherGeneration stored) q is = ap status_of_file (reason_is (why.OtherGeneration stored) q is)
-four_opening (opening.Spent n) q is = ap status_of_file (reason_is why.SequenceSpent q is)
-four_opening opening.Failed q is = absurd cc
-four_opening opening.Memory q is = absurd cc
+four_opening : (x : CopiesError) (q : FileRefusal) → of_opening x ≡ Refused q → status_of_file q ≡ 4
+four_opening (copies.Missing half) q is = absurd cc
+four_opening (copies.Files opening.NotKdcfile) q is = ap status_of_file (reason_is why.NotKdcfile q is)
+four_opening (copies.Files (opening.OtherGeneration stored)) q is = ap status_of_file (reason_is (why.OtherGeneration stored) q is)
+four_opening (copies.Files (opening.Spent n)) q is = ap status_of_file (reason_is why.SequenceSpent q is)
+four_opening (copies.Files opening.Failed) q is = absurd cc
+four_opening (copies.Files opening.Memory) q is = absurd cc
 
 four_live : (x : LiveError) (q : FileRefusal) → of_live x ≡ Refused q → status_of_file q ≡ 4
 four_live live.NotKdcfile q is = ap status_of_file (reason_is why.NotKdcfile q is)
@@ -98,19 +101,37 @@ four_live live.Input q is = absurd cc
 four_live live.Spent q is = absurd cc
 four_live live.Memory q is = absurd cc
 
-opening_failed : (U : Type 0) (x : TwinOpenError) → of_opening x ≡ Failed → IsErrOf {T = U} (Err x) opening.Failed
-opening_failed U opening.NotKdcfile is = absurd cc
-opening_failed U (opening.OtherGeneration stored) is = absurd cc
-opening_failed U (opening.Spent n) is = absurd cc
-opening_failed U opening.Failed is = refl
-opening_failed U opening.Memory is = absurd cc
+opening_failed : (U : Type 0) (x : CopiesError) → of_opening x ≡ Failed → IsErrOf {T = U} (Err x) (copies.Files opening.Failed)
+opening_failed U (copies.Missing half) is = absurd cc
+opening_failed U (copies.Files opening.NotKdcfile) is = absurd cc
+opening_failed U (copies.Files (opening.OtherGeneration stored)) is = absurd cc
+opening_failed U (copies.Files (opening.Spent n)) is = absurd cc
+opening_failed U (copies.Files opening.Failed) is = refl
+opening_failed U (copies.Files opening.Memory) is = absurd cc
 
-opening_hears : (x : TwinOpenError) → of_opening x ≡ Input → ⊥
-opening_hears opening.NotKdcfile is = cc
-opening_hears (opening.OtherGeneration stored) is = cc
-opening_hears (opening.Spent n) is = cc
-opening_hears opening.Failed is = cc
-opening_hears opening.Memory is = cc
+opening_hears : (x : CopiesError) → of_opening x ≡ Input → ⊥
+opening_hears (copies.Missing half) is = cc
+opening_hears (copies.Files opening.NotKdcfile) is = cc
+opening_hears (copies.Files (opening.OtherGeneration stored)) is = cc
+opening_hears (copies.Files (opening.Spent n)) is = cc
+opening_hears (copies.Files opening.Failed) is = cc
+opening_hears (copies.Files opening.Memory) is = cc
+
+opening_misses : (U : Type 0) (x : CopiesError) (half : Half) → of_opening x ≡ Missing half → IsErrOf {T = U} (Err x) (copies.Missing half)
+opening_misses U (copies.Missing first) half is = let same : first ≡ half = cc in ap (λ (h : Half). Err (copies.Missing h)) same
+opening_misses U (copies.Files opening.NotKdcfile) half is = absurd cc
+opening_misses U (copies.Files (opening.OtherGeneration stored)) half is = absurd cc
+opening_misses U (copies.Files (opening.Spent n)) half is = absurd cc
+opening_misses U (copies.Files opening.Failed) half is = absurd cc
+opening_misses U (copies.Files opening.Memory) half is = absurd cc
+
+live_misses : (x : LiveError) (half : Half) → of_live x ≡ Missing half → ⊥
+live_misses live.NotKdcfile half is = cc
+live_misses (live.OtherGeneration stored) half is = cc
+live_misses live.Failed half is = cc
+live_misses live.Input half is = cc
+live_misses live.Spent half is = cc
+live_misses live.Memory half is = cc
 
 live_failed : (U : Type 0) (x : LiveError) → of_live x ≡ Failed → IsErrOf {T = U} (Err x) live.Failed
 live_failed U live.NotKdcfile is = absurd cc
@@ -128,16 +149,17 @@ live_input U live.Input is = refl
 live_input U live.Spent is = absurd cc
 live_input U live.Memory is = absurd cc
 
-module _ (U : Type 0) (e : Errand) (a : Both) where
-  why_not_opened : (x : TwinOpenError) → (IsErrOf {T = U} (Err x) opening.NotKdcfile → IsTrue a.told → IsRefusedTwo e.application.generation e.fingerprint a.first.holds a.second.holds)
-      → ((stored : List ℕ) → IsErrOf {T = U} (Err x) (opening.OtherGeneration stored) → IsTrue a.told → IsTwoOfOtherTexts stored e.fingerprint a.first.holds a.second.holds)
-      → ((n : ℕ) → IsErrOf {T = U} (Err x) (opening.Spent n) → IsTrue a.told → IsSpent e.application.generation e.fingerprint n a.first.holds a.second.holds)
-      → (r : FileRefusal) → of_opening x ≡ Refused r → IsTrue a.told → OpeningRefusesTwo e a r
-  why_not_opened opening.NotKdcfile refused other spent r is told = inl (reason_is why.NotKdcfile r is, refused refl told)
-  why_not_opened (opening.OtherGeneration stored) refused other spent r is told = inr (inl (stored, reason_is (why.OtherGeneration stored) r is, other stored refl told))
-  why_not_opened (opening.Spent n) refused other spent r is told = inr (inr (n, reason_is why.SequenceSpent r is, spent n refl told))
-  why_not_opened opening.Failed refused other spent r is told = absurd cc
-  why_not_opened opening.Memory refused other spent r is told = absurd cc
+module _ (U : Type 0) (e : Errand) (alone : Bool) (a : Both) where
+  why_not_opened : (x : CopiesError) → (IsErrOf {T = U} (Err x) (copies.Files opening.NotKdcfile) → IsTrue a.told → MayOpen alone a × IsRefusedTwo e.application.generation e.fingerprint a.first.holds a.second.holds)
+      → ((stored : List ℕ) → IsErrOf {T = U} (Err x) (copies.Files (opening.OtherGeneration stored)) → IsTrue a.told → MayOpen alone a × IsTwoOfOtherTexts stored e.fingerprint a.first.holds a.second.holds)
+      → ((n : ℕ) → IsErrOf {T = U} (Err x) (copies.Files (opening.Spent n)) → IsTrue a.told → MayOpen alone a × IsSpent e.application.generation e.fingerprint n a.first.holds a.second.holds)
+      → (r : FileRefusal) → of_opening x ≡ Refused r → IsTrue a.told → RefusesTwoLive alone e a r
+  why_not_opened (copies.Missing half) refused other spent r is told = absurd cc
+  why_not_opened (copies.Files opening.NotKdcfile) refused other spent r is told = let h = refused refl told in (h.0, inl (reason_is why.NotKdcfile r is, h.1))
+  why_not_opened (copies.Files (opening.OtherGeneration stored)) refused other spent r is told = let h = other stored refl told in (h.0, inr (inl (stored, reason_is (why.OtherGeneration stored) r is, h.1)))
+  why_not_opened (copies.Files (opening.Spent n)) refused other spent r is told = let h = spent n refl told in (h.0, inr (inr (n, reason_is why.SequenceSpent r is, h.1)))
+  why_not_opened (copies.Files opening.Failed) refused other spent r is told = absurd cc
+  why_not_opened (copies.Files opening.Memory) refused other spent r is told = absurd cc
 
   no_reason : (x : LiveError) → (IsErrOf {T = U} (Err x) live.NotKdcfile → ⊥) → ((stored : List ℕ) → IsErrOf {T = U} (Err x) (live.OtherGeneration stored) → ⊥) → (r : FileRefusal) → of_live x ≡ Refused r → ⊥
   no_reason live.NotKdcfile refused other r is = refused refl
@@ -155,34 +177,35 @@ now_two a b lb earlier here same le told = let told_b = subst IsTrue (sym same) 
 
 -- ---- both files
 
-module _ (e : Errand) (base : List ℕ) (j : TypingState) (a m : Both) (la lm : ℕ → List ℕ → List ℕ → List ℕ → Type 0) (frame : FrameTwin a m) (sent : IsTrue a.told → m.sent ≡ a.sent)
+module _ (e : Errand) (base : List ℕ) (alone : Bool) (j : TypingState) (a m : Both) (la lm : ℕ → List ℕ → List ℕ → List ℕ → Type 0) (frame : FrameTwin a m) (sent : IsTrue a.told → m.sent ≡ a.sent)
     (any : IsTrue a.told → BothRest a la → (t : TableRows) → OpensTwo e a t → LeavesOpeningTwo (identity_of_two e) t a m lm) where
   -- they are not opened
-  pub unopened : (U : Type 0) (x : TwinOpenError) (r : Result Unit SessionError) → IsErrAnd r (λ z. z ≡ of_opening x)
-      → (IsErrOf {T = U} (Err x) opening.NotKdcfile → IsTrue a.told → IsRefusedTwo e.application.generation e.fingerprint a.first.holds a.second.holds)
-      → ((stored : List ℕ) → IsErrOf {T = U} (Err x) (opening.OtherGeneration stored) → IsTrue a.told → IsTwoOfOtherTexts stored e.fingerprint a.first.holds a.second.holds)
-      → ((n : ℕ) → IsErrOf {T = U} (Err x) (opening.Spent n) → IsTrue a.told → IsSpent e.application.generation e.fingerprint n a.first.holds a.second.holds)
-      → (IsErrOf {T = U} (Err x) opening.Failed → RoseAt First a m ⊎ RoseAt Second a m) → ((IsErrOf {T = U} (Err x) opening.Failed → ⊥) → FineTwo a m)
-      → (IsTrue a.told → ((t : TableRows) → OpensTwo e a t → ⊥) → StaysAsItIs a m la lm) → (IsTrue a.told → MayAttachTwo base a m) → (IsTrue a.told → lm a.moment m.first.holds m.second.holds m.sent) → DoesLiveTwo e base r j j a m la lm
+  pub unopened : (U : Type 0) (x : CopiesError) (r : Result Unit SessionError) → IsErrAnd r (λ z. z ≡ of_opening x) → ((half : Half) → IsErrOf {T = U} (Err x) (copies.Missing half) → (alone ≡ false) × (IsTrue a.told → IsMissing half a.first.holds a.second.holds))
+      → (IsErrOf {T = U} (Err x) (copies.Files opening.NotKdcfile) → IsTrue a.told → MayOpen alone a × IsRefusedTwo e.application.generation e.fingerprint a.first.holds a.second.holds)
+      → ((stored : List ℕ) → IsErrOf {T = U} (Err x) (copies.Files (opening.OtherGeneration stored)) → IsTrue a.told → MayOpen alone a × IsTwoOfOtherTexts stored e.fingerprint a.first.holds a.second.holds)
+      → ((n : ℕ) → IsErrOf {T = U} (Err x) (copies.Files (opening.Spent n)) → IsTrue a.told → MayOpen alone a × IsSpent e.application.generation e.fingerprint n a.first.holds a.second.holds)
+      → (IsErrOf {T = U} (Err x) (copies.Files opening.Failed) → RoseAt First a m ⊎ RoseAt Second a m) → ((IsErrOf {T = U} (Err x) (copies.Files opening.Failed) → ⊥) → FineTwo a m)
+      → (IsTrue a.told → ((t : TableRows) → MayOpen alone a → OpensTwo e a t → ⊥) → StaysAsItIs a m la lm) → (IsTrue a.told → MayAttachTwo base a m) → (IsTrue a.told → lm a.moment m.first.holds m.second.holds m.sent) → DoesLiveTwo e base alone r j j a m la lm
   unfolding AreAnswered EachInTurn
-  unopened U x r gives refused other spent failed went still names now =
+  unopened U x r gives missing refused other spent failed went still names now =
       let stops : IsTrue a.told → (t : TableRows) → OpensTwo e a t → BothRest a la → (c d out : List ℕ) → lm a.moment c d out → IsStopOfRun (identity_of_two e) t (acts_lived e t []) a m c d out =
       λ told t opens rest c d out left. let o = any told rest t opens c d out left in silent_stop (identity_of_two e) t (acts_lived e t []) a m c d out o.0 o.1 in
       record {
         opened = none_ok r _ _ gives;
-        refused = λ q is told. why_not_opened U e a x refused other spent q (handed r (of_opening x) (Refused q) gives is) told;
+        missing = λ half is told. let h = missing half (opening_misses U x half (handed r (of_opening x) (Missing half) gives is)) in (h.0, h.1 told);
+        refused = λ q is told. why_not_opened U e alone a x refused other spent q (handed r (of_opening x) (Refused q) gives is) told;
         four = λ q is. four_opening x q (handed r (of_opening x) (Refused q) gives is);
         failed = λ is. inr (failed (opening_failed U x (handed r (of_opening x) Failed gives is)));
         failed_told = λ is told. inr (inr (failed (opening_failed U x (handed r (of_opening x) Failed gives is)), sent told));
-        fine = λ none. went (λ is. none (given r (of_opening x) Failed gives (ap of_opening (err_is U x opening.Failed is))));
+        fine = λ none. went (λ is. none (given r (of_opening x) Failed gives (ap of_opening (err_is U x (copies.Files opening.Failed) is))));
         input = λ is. absurd (opening_hears x (handed r (of_opening x) Input gives is));
         heard = λ none. refl;
-        still = still;
-        lived = λ told t opens. record {
+        still = λ told none. (still told (λ t may opens. none t (may, opens)), refl);
+        lived = λ told t begins. record {
           mended = None;
           mended_was = λ half is. absurd cc;
-          lived = record { exchanges = []; answered = tt; read = tt; stops = stops told t opens; ends = none_ok r _ _ gives };
-          ended = λ rest. stops told t opens rest m.first.holds m.second.holds m.sent (now told);
+          lived = record { exchanges = []; answered = tt; read = tt; stops = stops told t begins.1; ends = none_ok r _ _ gives };
+          ended = λ rest. stops told t begins.1 rest m.first.holds m.second.holds m.sent (now told);
         };
         names = names;
         named = none_ok r _ _ gives;
@@ -191,7 +214,7 @@ module _ (e : Errand) (base : List ℕ) (j : TypingState) (a m : Both) (la lm : 
       }
 
   -- they are opened, and lines are typed over them
-  module _ (s : Twice) (t : TableRows) (some : IsOpen s) (suits : Suits e.application.generation t) (opens : IsTrue a.told → OpensTwo e a t) (used : IsTrue a.told → (half : Half) → IsInUse half s ⊎ (s.lost ≡ Some half)) (went : FineTwo a m) (fine : (half : Half) → IsInUse half s → SameFaultsAt half a m)
+  module _ (s : Twice) (t : TableRows) (some : IsOpen s) (suits : Suits e.application.generation t) (may_open : IsTrue a.told → MayOpen alone a) (opens : IsTrue a.told → OpensTwo e a t) (used : IsTrue a.told → (half : Half) → IsInUse half s ⊎ (s.lost ≡ Some half)) (went : FineTwo a m) (fine : (half : Half) → IsInUse half s → SameFaultsAt half a m)
       (lost : (half : Half) → s.lost ≡ Some half → RoseAt half a m) (mended : IsTrue a.told → (half : Half) → s.mended ≡ Some half → WasBehind half a) (mended_all : IsTrue a.told → (half : Half) → WasBehind half a → (s.mended ≡ Some half) ⊎ (s.lost ≡ Some half)) (attaches : IsTrue a.told → AttachesBoth base a m)
       (b : Both) (lb : ℕ → List ℕ → List ℕ → List ℕ → Type 0) (j' : TypingState) (typing : SameTyping j j') (on : FrameTwice m b) (durable : durable_of (begun e t) ≡ t) (now : IsTrue a.told → lb a.moment b.first.holds b.second.holds b.sent) where
     told_m : IsTrue a.told → IsTrue m.told
@@ -246,9 +269,10 @@ module _ (e : Errand) (base : List ℕ) (j : TypingState) (a m : Both) (la lm : 
     attached told = attached_then base a m b on (told_m told) (attaches told)
 
     -- to the end of the input
-    pub typed_out : (IsTrue m.told → LivedTwice (identity_of_two e) s (begun e t) j m b lm lb (Ok tt)) → FineTwice s m b → j'.faults ≡ j.faults → DoesLiveTwo e base (Ok tt) j j' a b la lb
+    pub typed_out : (IsTrue m.told → LivedTwice (identity_of_two e) s (begun e t) j m b lm lb (Ok tt)) → FineTwice s m b → j'.faults ≡ j.faults → DoesLiveTwo e base alone (Ok tt) j j' a b la lb
     typed_out lived on_fine heard = record {
-      opened = λ told. (t, opens told);
+      opened = λ told. (t, (may_open told, opens told));
+      missing = λ half is. absurd cc;
       refused = λ q is. absurd cc;
       four = λ q is. absurd cc;
       failed = λ is. absurd cc;
@@ -256,8 +280,8 @@ module _ (e : Errand) (base : List ℕ) (j : TypingState) (a m : Both) (la lm : 
       fine = λ none. fine_of_run (identity_of_two e) s t [] a m b frame on lost went fine on_fine;
       input = λ is. absurd cc;
       heard = λ none. heard;
-      still = λ told none. absurd (none t (opens told));
-      lived = λ told u opens_u. opened_at (Ok tt) (Ok tt) (lived (told_m told)) (λ P Q f p. f p) told u opens_u;
+      still = λ told none. absurd (none t (may_open told, opens told));
+      lived = λ told u begins. opened_at (Ok tt) (Ok tt) (lived (told_m told)) (λ P Q f p. f p) told u begins.1;
       names = λ told half. inr (attached told half);
       named = λ told. attached told;
       frame = frames_then a m b frame on;
@@ -266,18 +290,19 @@ module _ (e : Errand) (base : List ℕ) (j : TypingState) (a m : Both) (la lm : 
 
     -- or not
     pub typed_until : (U : Type 0) (x : LiveError) (r : Result Unit SessionError) → IsErrAnd r (λ z. z ≡ of_live x) → (IsTrue m.told → LivedTwice (identity_of_two e) s (begun e t) j m b lm lb (Err x)) → (IsErrOf {T = U} (Err x) live.Failed → FailsTwice s m b) → ((IsErrOf {T = U} (Err x) live.Failed → ⊥) → FineTwice s m b)
-        → (IsErrOf {T = U} (Err x) live.Input → Rose j.faults j'.faults) → ((IsErrOf {T = U} (Err x) live.Input → ⊥) → j'.faults ≡ j.faults) → (IsErrOf {T = U} (Err x) live.NotKdcfile → IsTrue m.told → ⊥) → ((stored : List ℕ) → IsErrOf {T = U} (Err x) (live.OtherGeneration stored) → IsTrue m.told → ⊥) → DoesLiveTwo e base r j j' a b la lb
+        → (IsErrOf {T = U} (Err x) live.Input → Rose j.faults j'.faults) → ((IsErrOf {T = U} (Err x) live.Input → ⊥) → j'.faults ≡ j.faults) → (IsErrOf {T = U} (Err x) live.NotKdcfile → IsTrue m.told → ⊥) → ((stored : List ℕ) → IsErrOf {T = U} (Err x) (live.OtherGeneration stored) → IsTrue m.told → ⊥) → DoesLiveTwo e base alone r j j' a b la lb
     typed_until U x r gives lived failed on_fine input heard refused other = record {
       opened = none_ok r _ _ gives;
-      refused = λ q is told. absurd (no_reason U e a x (λ no. refused no (told_m told)) (λ stored no. other stored no (told_m told)) q (handed r (of_live x) (Refused q) gives is));
+      missing = λ half is told. absurd (live_misses x half (handed r (of_live x) (Missing half) gives is));
+      refused = λ q is told. absurd (no_reason U e alone a x (λ no. refused no (told_m told)) (λ stored no. other stored no (told_m told)) q (handed r (of_live x) (Refused q) gives is));
       four = λ q is. four_live x q (handed r (of_live x) (Refused q) gives is);
       failed = λ is. faults_of_run (identity_of_two e) s t [] a m b frame on lost some (failed (live_failed U x (handed r (of_live x) Failed gives is)));
       failed_told = λ is told. fails_of_run (identity_of_two e) s t [] a m b frame on lost (used told) (failed (live_failed U x (handed r (of_live x) Failed gives is)));
       fine = λ none. fine_of_run (identity_of_two e) s t [] a m b frame on lost went fine (on_fine (λ is. none (given r (of_live x) Failed gives (ap of_live (err_is U x live.Failed is)))));
       input = λ is. input (live_input U x (handed r (of_live x) Input gives is));
       heard = λ none. heard (λ is. none (given r (of_live x) Input gives (ap of_live (err_is U x live.Input is))));
-      still = λ told none. absurd (none t (opens told));
-      lived = λ told u opens_u. opened_at r (Err x) (lived (told_m told)) (λ P Q f p. none_ok r _ Q gives) told u opens_u;
+      still = λ told none. absurd (none t (may_open told, opens told));
+      lived = λ told u begins. opened_at r (Err x) (lived (told_m told)) (λ P Q f p. none_ok r _ Q gives) told u begins.1;
       names = λ told half. inr (attached told half);
       named = none_ok r _ _ gives;
       frame = frames_then a m b frame on;

@@ -8,7 +8,7 @@ use Rattle.refusals.specs.Texts.{NoReadFailed}
 use Rattle.refusals.specs.declared.error.Refusal.{Refusal}
 use Rattle.call_parts.specs.Beside.{SendsRefusal}
 use Rattle.call_parts.specs.Leaving.{MayAttach}
-use Rattle.call_parts.specs.Words.{base_of, file_name, live_usage_line}
+use Rattle.call_parts.specs.Words.{live_base_of, file_name, live_usage_line}
 use Rattle.live_run.specs.Typing.{SameTyping, TypingState}
 use Rattle.live_cli.specs.Ends.{EndsLive, FailedLive}
 use Rattle.live_cli.specs.Promise.{ForLive, ForLiveRefusal, IsIdle, IsNoBase, LiveAccepts, LiveCall, LiveMisses, LiveReads}
@@ -16,14 +16,14 @@ use Rattle.live_cli.specs.Promise.{ForLive, ForLiveRefusal, IsIdle, IsNoBase, Li
 -- a call over one file ended with this status, and left this room, this input and this device
 pub record AnswersLive (c : LiveCall) (r : RoomState) (j : TypingState) (b : State) (la lb : ℕ → List ℕ → List ℕ → Type 0) (status : ℕ) : Type 0 where
   pub code : IsOneOf (0 ∷ 1 ∷ 2 ∷ 4 ∷ 5 ∷ 6 ∷ 7 ∷ []) status
-  -- 1: the words are not one BASE. Nothing is done but the usage line
+  -- 1: the words are not one BASE with its option. Nothing is done but the usage line
   pub usage : IsNoBase c.words → SendsRefusal 1 live_usage_line c.device b status
   pub usage_only : status ≡ 1 → IsNoBase c.words
   -- 2: the definition and the units are refused. Nothing is done but the line of the first fault, as that of `gen`
   pub texts : ForLiveRefusal c (λ why. IsIdle status c.device b c.typing j ⊎ SendsRefusal (status_of why) (refusal_line why) c.device b status)
   pub texts_only : status ≡ 2 → IsTrue c.room.told → (why : Refusal) × LiveReads c.words c.room (Err why)
   -- the texts are accepted: 4 where the file is refused, and otherwise the lines that are typed, to the end of the input with 0
-  pub session : ForLive c (λ e. (base : List ℕ) → base_of c.words ≡ Some base → IsIdle status c.device b c.typing j ⊎ EndsLive e base c.typing j c.device b la lb status)
+  pub session : ForLive c (λ e. (base : List ℕ) → live_base_of c.words ≡ Some base → IsIdle status c.device b c.typing j ⊎ EndsLive e base c.typing j c.device b la lb status)
   pub session_only : IsOneOf (0 ∷ 4 ∷ []) status → IsTrue c.room.told → LiveAccepts c
   -- 5: a call of the disk, the line or the input failed; at any other status none did
   pub device : status ≡ 5 → FailedLive c.device b c.typing j
@@ -35,7 +35,7 @@ pub record AnswersLive (c : LiveCall) (r : RoomState) (j : TypingState) (b : Sta
   pub room_idle : status ≡ 6 → IsIdle status c.device b c.typing j
   pub missing : IsTrue c.room.told → LiveMisses c.words c.room → IsIdle status c.device b c.typing j
   -- the file BASE.KDCA, and no other, was attached
-  pub names : IsTrue c.device.told → (base : List ℕ) → base_of c.words ≡ Some base → MayAttach (file_name base) c.device b
+  pub names : IsTrue c.device.told → (base : List ℕ) → live_base_of c.words ≡ Some base → MayAttach (file_name base) c.device b
   pub frame : Frame c.device b
   pub same_room : SameRoom c.room r
   pub same_typing : SameTyping c.typing j

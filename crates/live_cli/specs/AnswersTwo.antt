@@ -7,7 +7,7 @@ use Rattle.kd_device.specs.declared.half.Half.TheVariants.{First, Second}
 use Rattle.refusals.specs.Statuses.{IsOneOf}
 use Rattle.refusals.specs.Texts.{NoReadFailed}
 use Rattle.call_parts.specs.LeavingTwo.{FaultsTwo, FineTwo, FrameTwin, MayAttachTwo}
-use Rattle.call_parts.specs.Words.{base_of}
+use Rattle.call_parts.specs.Words.{live_base_of, takes_alone}
 use Rattle.live_run.specs.Typing.{SameTyping, TypingState}
 use Rattle.live_cli.specs.Answers.{AnswersLive}
 use Rattle.live_cli.specs.EndsTwo.{EndsLiveTwo}
@@ -21,9 +21,9 @@ pub record AnswersLiveTwo (c : LiveTwinCall) (r : RoomState) (j : TypingState) (
   pub single : IsSingleLive c.words c.room → AnswersLive (live_call c.words c.room (half_state First c.twin) c.typing) r j (half_state First b) (half_leaves First la) (half_leaves First lb) status
   pub single_second : IsSingleLive c.words c.room → disk_of Second b ≡ disk_of Second c.twin
   pub usage_only : status ≡ 1 → IsNoBase c.words
-  -- two copies: 4 where the files are refused, and otherwise the lines that are typed, to the end of the input with 0
+  -- two copies: 4 where a file is missing and `--alone` is not said, or where the files are refused, and otherwise the lines that are typed, to the end of the input with 0
   pub texts_only : ForLiveTwo c (λ e. IsOneOf (0 ∷ 4 ∷ 5 ∷ 6 ∷ 7 ∷ []) status)
-  pub session : ForLiveTwo c (λ e. (base : List ℕ) → base_of c.words ≡ Some base → IsIdle status c.twin b c.typing j ⊎ EndsLiveTwo e base c.typing j c.twin b la lb status)
+  pub session : ForLiveTwo c (λ e. (base : List ℕ) → live_base_of c.words ≡ Some base → IsIdle status c.twin b c.typing j ⊎ EndsLiveTwo e base (takes_alone c.words) c.typing j c.twin b la lb status)
   -- 5: the input failed, or a call of the line or of a half; at any other status no fault is told as another answer, whatever
   -- the texts ask for
   pub device : status ≡ 5 → FaultsTwo c.twin b ⊎ Rose c.typing.faults j.faults
@@ -35,7 +35,7 @@ pub record AnswersLiveTwo (c : LiveTwinCall) (r : RoomState) (j : TypingState) (
   pub room_idle : status ≡ 6 → IsIdle status c.twin b c.typing j
   pub missing : IsTrue c.room.told → LiveMisses c.words c.room → IsIdle status c.twin b c.typing j
   -- of each half no file was attached but its own, BASE.KDCA and BASE.KDCB
-  pub names : IsTrue c.twin.told → (base : List ℕ) → base_of c.words ≡ Some base → MayAttachTwo base c.twin b
+  pub names : IsTrue c.twin.told → (base : List ℕ) → live_base_of c.words ≡ Some base → MayAttachTwo base c.twin b
   pub frame : FrameTwin c.twin b
   pub same_room : SameRoom c.room r
   pub same_typing : SameTyping c.typing j

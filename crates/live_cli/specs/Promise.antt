@@ -6,7 +6,7 @@ use Rattle.refusals.specs.Statuses.{IsOneOf}
 use Rattle.refusals.specs.declared.error.Refusal.{Refusal}
 use Rattle.call_parts.specs.Asking.{Errand, Reading, ReadsFor}
 use Rattle.call_parts.specs.Requests.{Lacks}
-use Rattle.call_parts.specs.Words.{base_of}
+use Rattle.call_parts.specs.Words.{live_base_of}
 use Rattle.call_parts.specs.declared.words.Word.TheVariants.{Gen}
 use Rattle.live_run.specs.Typing.{TypingState}
 
@@ -20,20 +20,20 @@ pub record LiveCall : Type 0 where
 abbrev pub live_call : List (List ℕ) → RoomState → State → TypingState → LiveCall
 live_call words room device typing = record { words = words; room = room; device = device; typing = typing }
 
--- the words are not one BASE
+-- the words are not one BASE with its option
 abbrev pub IsNoBase : List (List ℕ) → Type 0
-IsNoBase words = base_of words ≡ None
+IsNoBase words = live_base_of words ≡ None
 
 -- the words are this BASE, its definition and its units are there, and this is what they say: what `gen` reads
 pub record LiveReads (words : List (List ℕ)) (room : RoomState) (said : Reading) : Type 0 where
   pub base : List ℕ
-  pub asked : base_of words ≡ Some base
+  pub asked : live_base_of words ≡ Some base
   pub reads : ReadsFor Gen base room said
 
 -- the words are a BASE, and its definition or its units are not there
 pub record LiveMisses (words : List (List ℕ)) (room : RoomState) : Type 0 where
   pub base : List ℕ
-  pub asked : base_of words ≡ Some base
+  pub asked : live_base_of words ≡ Some base
   pub not_there : Lacks Gen base room
 
 -- what holds of the application that the texts make

@@ -3,7 +3,7 @@ use Rattle.std.specs.Prelude.{◌≡◌, ◌⊎◌, IsTrue, List, ℕ, Some, Ok}
 use Rattle.kd_device.specs.Room.{RoomState}
 use Rattle.kd_device.specs.Twin.{Both}
 use Rattle.call_parts.specs.Asking.{Errand, Reading, ReadsForTwo}
-use Rattle.call_parts.specs.Words.{base_of}
+use Rattle.call_parts.specs.Words.{live_base_of}
 use Rattle.call_parts.specs.declared.words.Word.TheVariants.{Gen}
 use Rattle.live_run.specs.Typing.{TypingState}
 use Rattle.live_cli.specs.Promise.{IsNoBase}
@@ -21,10 +21,10 @@ live_twin_call words room twin typing = record { words = words; room = room; twi
 -- the words are this BASE, its definition and its units are there and ask for two copies, and this is what they say
 pub record LiveReadsTwo (words : List (List ℕ)) (room : RoomState) (said : Reading) : Type 0 where
   pub base : List ℕ
-  pub asked : base_of words ≡ Some base
+  pub asked : live_base_of words ≡ Some base
   pub reads : ReadsForTwo Gen base room said
 
--- the words are not one BASE, or the texts are told and do not define two copies
+-- the words are not one BASE with its option, or the texts are told and do not define two copies
 abbrev pub IsSingleLive : List (List ℕ) → RoomState → Type 0
 IsSingleLive words room = IsNoBase words ⊎ (IsTrue room.told × ((said : Reading) → LiveReadsTwo words room said → ⊥))
 

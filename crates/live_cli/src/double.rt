@@ -13,7 +13,7 @@ ghost use Rattle.live_cli.specs.{EndsTwo.{DoesLiveTwo, EndsLiveTwo}, Living.{beg
 
 use crate::error::SessionError;
 use application_read::Application;
-use call_parts::{Cause, Work, open_copies, refuse_beside};
+use call_parts::{Cause, Work, open_unless_missing, refuse_beside};
 use device_acts::warm_start::limits_of;
 use kd_device::{Half, Twin};
 use kdcfile_double::TwinStore;
@@ -165,41 +165,53 @@ fn live_copies<T: Twin, I: Typing>(
     live_twice(alloc, twin, store, typing, core, limits, &fingerprint)
 }
 
-/// Performs what is typed, over the two files of this BASE, which are made where both are empty.
+/// Performs what is typed, over the two files of this BASE, which are made where both are empty; unless one is missing, and
+/// a copy is not taken alone.
 fn over_copies<T: Twin, I: Typing>(
     alloc: Global,
     twin: &mut T,
     base: &[u8],
+    alone: bool,
     work: Work,
     typing: &mut I,
 ) -> Result<(), SessionError>
     requires fit { IsFit work.application.generation work.application.units }
     requires double { IsSome work.application.generation.double }
-    ensures { DoesLiveTwo (gen_errand work) base.now result (I.typing typing.old) (I.typing typing.new) (T.both twin.old) (T.both twin.new) (T.leaves twin.old) (T.leaves twin.new) }
+    ensures { DoesLiveTwo (gen_errand work) base.now alone result (I.typing typing.old) (I.typing typing.new) (T.both twin.old) (T.both twin.new) (T.leaves twin.old) (T.leaves twin.new) }
 {
     let generation = &work.application.generation;
-    let (store, tables) = open_copies(alloc, twin, base, generation, &work.fingerprint)?;
+    let (store, tables) = open_unless_missing(
+        alloc,
+        twin,
+        base,
+        generation,
+        &work.fingerprint,
+        alone,
+    )?;
     Ok(live_copies(alloc, twin, store, tables, work, typing)?)
 }
 
 /// Performs what is typed over the two files of this BASE, each on its disk. One that is behind is mended first, which is
-/// said, and the session goes on while one disk fails, which is said last.
+/// said, and the session goes on while one disk fails, which is said last. Where one is missing and a copy is not taken
+/// alone, that is said, and nothing else is done.
 pub(crate) fn double<T: Twin, I: Typing>(
     alloc: Global,
     twin: &mut T,
     base: &[u8],
+    alone: bool,
     work: Work,
     typing: &mut I,
 ) -> Status
     requires fit { IsFit work.application.generation work.application.units }
     requires double { IsSome work.application.generation.double }
-    ensures { EndsLiveTwo (gen_errand work) base.now (I.typing typing.old) (I.typing typing.new) (T.both twin.old) (T.both twin.new) (T.leaves twin.old) (T.leaves twin.new) result.code }
+    ensures { EndsLiveTwo (gen_errand work) base.now alone (I.typing typing.old) (I.typing typing.new) (T.both twin.old) (T.both twin.new) (T.leaves twin.old) (T.leaves twin.new) result.code }
 {
-    match over_copies(alloc, twin, base, work, typing) {
+    match over_copies(alloc, twin, base, alone, work, typing) {
         Ok(()) => Status::DONE,
         Err(SessionError::Failed) => Status::DEVICE,
         Err(SessionError::Input) => Status::DEVICE,
         Err(SessionError::Memory) => Status::MEMORY,
+        Err(SessionError::Missing(half)) => refuse_beside(alloc, twin, Cause::Missing(half)),
         Err(SessionError::Refused(why)) => refuse_beside(alloc, twin, Cause::Files(why)),
     }
 }

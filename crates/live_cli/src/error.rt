@@ -2,39 +2,44 @@
 ghost use Rattle.std.specs.Prelude.{◌≡◌};
 ghost use Rattle.live_cli.specs.Causes.{of_live, of_opening};
 
+use call_parts::CopiesError;
+use kd_device::Half;
 use kdcfile_double::TwinOpenError;
 use live_run::LiveError;
 use refusals::FileRefusal;
-use thiserror::Error;
 
 /// Why a session over two copies ended before its input did.
-#[derive(Clone, Copy, Debug, Error)]
+#[derive(Clone, Copy)]
 pub(crate) enum SessionError {
-    #[error("the KDCFILE is refused")]
+    /// The file of this half is empty or not there, beside a copy with commits, which was not to be taken alone.
+    Missing(Half),
+    /// The KDCFILE is refused.
     Refused(FileRefusal),
     /// Calls of the disks or the line failed, so that it could not go on.
-    #[error("the disks or the line failed")]
     Failed,
     /// A read of the input failed.
-    #[error("the input failed")]
     Input,
     /// Memory ran out, or the turns and commands of a monitor are spent.
-    #[error("out of memory")]
     Memory,
 }
 
-impl From<TwinOpenError> for SessionError {
+impl From<CopiesError> for SessionError {
     ghost from_gives = { λ e r. r ≡ of_opening e };
 
-    fn from(e: TwinOpenError) -> Self {
+    fn from(e: CopiesError) -> Self {
         match e {
-            TwinOpenError::NotKdcfile => SessionError::Refused(FileRefusal::NotKdcfile),
-            TwinOpenError::OtherGeneration(stored) => {
+            CopiesError::Missing(half) => SessionError::Missing(half),
+            CopiesError::Files(TwinOpenError::NotKdcfile) => {
+                SessionError::Refused(FileRefusal::NotKdcfile)
+            }
+            CopiesError::Files(TwinOpenError::OtherGeneration(stored)) => {
                 SessionError::Refused(FileRefusal::OtherGeneration(stored))
             }
-            TwinOpenError::Spent(_) => SessionError::Refused(FileRefusal::SequenceSpent),
-            TwinOpenError::Failed => SessionError::Failed,
-            TwinOpenError::Memory => SessionError::Memory,
+            CopiesError::Files(TwinOpenError::Spent(_)) => {
+                SessionError::Refused(FileRefusal::SequenceSpent)
+            }
+            CopiesError::Files(TwinOpenError::Failed) => SessionError::Failed,
+            CopiesError::Files(TwinOpenError::Memory) => SessionError::Memory,
         }
     }
 }

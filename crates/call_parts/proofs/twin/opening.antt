@@ -1,2 +1,2 @@
-mod Attached
+pub mod Attached
 mod Opened

@@ -1,5 +1,5 @@
 //! The two files of a BASE are attached and opened.
-ghost use Rattle.std.specs.Prelude.{◌≡◌, ◌⊎◌, ◌++◌, IsSome, IsTrue, IfOk, OnOk, IsErrOf, List, ℕ, Some};
+ghost use Rattle.std.specs.Prelude.{◌≡◌, ◌⊎◌, ◌++◌, IsSome, IsTrue, IfOk, IfSome, IfNone, OnOk, IsErrOf, List, ℕ, Some, true, false};
 ghost use Rattle.kd_device.specs.{declared.half.Half.{Half as Side}, declared.half.Half.TheVariants.{First, Second}, Twin.{disk_of, other}};
 ghost use Rattle.kdcs_types.specs.Tables.{TableRows};
 ghost use Rattle.laws_of_states.specs.Suits.{Suits};
@@ -7,8 +7,11 @@ ghost use Rattle.device_acts.specs.Stands.{AreTables};
 ghost use Rattle.kdcfile_double.specs.{Twice.{IsInUse, IsKeptTwice, IsOpen, NoneRose, RoseAt, SameFaultsAt}, Mended.{BothRest}, MakingLaws.{RestsBoth}};
 ghost use Rattle.kdcfile_double.specs.Opening.{IsRefusedTwo, IsSpent, IsTwoOfOtherTexts, KeepsTablesTwice, StartsFromTwo, identity_twice};
 ghost use Rattle.call_parts.specs.LeavingTwo.{AttachesBoth, FineTwo, FrameTwin, MayAttachTwo, WasBehind};
+ghost use Rattle.call_parts.specs.Missing.{IsMissing, MayOpen};
 ghost use Rattle.call_parts.specs.OpeningTwo.{AttachesHalf, LeavesOpeningTwo, MayAttachHalf, StaysAsItIs};
 
+use crate::error::CopiesError;
+use crate::twin::missing::missing_half;
 use application_types::generation::Generation;
 use kd_device::{DeviceError, Half, Twin};
 use kdcfile_double::{TwinOpenError, TwinStore};
@@ -54,8 +57,84 @@ pub fn attach_both<T: Twin>(alloc: Global, twin: &mut T, base: &[u8]) -> Result<
     Ok(())
 }
 
+/// Attaches both files of this BASE, and tells which one is empty or not there beside a copy with commits, unless that is
+/// taken alone. Both stay as they are.
+pub fn find_missing<T: Twin>(
+    alloc: Global,
+    twin: &mut T,
+    base: &[u8],
+    alone: bool,
+) -> Result<Option<Half>, DeviceError>
+    ensures some { IfOk result (λ m. IfSome m (λ half. (alone ≡ false) × (IsTrue (T.both twin.old).told → IsMissing half (T.both twin.old).first.holds (T.both twin.old).second.holds))) }
+    ensures none { IfOk result (λ m. IfNone m (IsTrue (T.both twin.old).told → MayOpen alone (T.both twin.old))) }
+    ensures rests { IsTrue (T.both twin.old).told → RestsBoth (T.both twin.old) (T.both twin.new) (T.leaves twin.old) (T.leaves twin.new) }
+    ensures names { IsTrue (T.both twin.old).told → MayAttachTwo base.now (T.both twin.old) (T.both twin.new) }
+    ensures named { OnOk result (IsTrue (T.both twin.old).told → AttachesBoth base.now (T.both twin.old) (T.both twin.new)) }
+    ensures failed { IsErrOf result DeviceError.Failed → RoseAt First (T.both twin.old) (T.both twin.new) ⊎ RoseAt Second (T.both twin.old) (T.both twin.new) }
+    ensures fine { (IsErrOf result DeviceError.Failed → ⊥) → NoneRose (T.both twin.old) (T.both twin.new) }
+    ensures frame { FrameTwin (T.both twin.old) (T.both twin.new) }
+{
+    attach_both(alloc, twin, base)?;
+    if alone {
+        return Ok(None);
+    }
+    missing_half(alloc, twin)
+}
+
 /// Attaches both files of this BASE, opens them for this generation and the texts with this fingerprint, which makes
-/// empty ones, and writes one that is behind anew.
+/// empty ones, and writes one that is behind anew; unless one is missing, and a copy is not taken alone.
+pub fn open_unless_missing<T: Twin>(
+    alloc: Global,
+    twin: &mut T,
+    base: &[u8],
+    generation: &Generation,
+    fingerprint: &[u8; 32],
+    alone: bool,
+) -> Result<(TwinStore, Tables), CopiesError>
+    requires double { IsSome generation.now.double }
+    ensures suits { IfOk result (λ o. Suits generation.now o.1) }
+    ensures keeps { IfOk result (λ o. KeepsTablesTwice (identity_twice generation.now fingerprint.now) o.0 o.1) }
+    ensures is_open { IfOk result (λ o. IsOpen o.0) }
+    ensures kept { IfOk result (λ o. IsTrue (T.both twin.old).told → IsKeptTwice o.0 (T.both twin.new) (T.leaves twin.new)) }
+    ensures starts { IfOk result (λ o. IsTrue (T.both twin.old).told → StartsFromTwo generation.now fingerprint.now (T.both twin.old).first.holds (T.both twin.old).second.holds o.1) }
+
+    // A half is in use, and no call on it failed; or it is lost, since one failed while it was written anew.
+    ensures used { IfOk result (λ o. IsTrue (T.both twin.old).told → (half : Side) → IsInUse half o.0 ⊎ (o.0.lost ≡ Some half)) }
+    ensures fine { IfOk result (λ o. (half : Side) → IsInUse half o.0 → SameFaultsAt half (T.both twin.old) (T.both twin.new)) }
+    ensures lost { IfOk result (λ o. (half : Side) → o.0.lost ≡ Some half → RoseAt half (T.both twin.old) (T.both twin.new)) }
+
+    // Just a half that was behind is mended.
+    ensures mended { IfOk result (λ o. IsTrue (T.both twin.old).told → (half : Side) → o.0.mended ≡ Some half → WasBehind half (T.both twin.old)) }
+    ensures mended_all { IfOk result (λ o. IsTrue (T.both twin.old).told → (half : Side) → WasBehind half (T.both twin.old) → (o.0.mended ≡ Some half) ⊎ (o.0.lost ≡ Some half)) }
+
+    // They are opened, or refused for what they stand for, where no file is missing, or a copy is taken alone.
+    ensures may { OnOk result (IsTrue (T.both twin.old).told → MayOpen alone (T.both twin.old)) }
+    ensures missing { (half : Side) → IsErrOf result (CopiesError.Missing half) → (alone ≡ false) × (IsTrue (T.both twin.old).told → IsMissing half (T.both twin.old).first.holds (T.both twin.old).second.holds) }
+    ensures refused { IsErrOf result (CopiesError.Files TwinOpenError.NotKdcfile) → IsTrue (T.both twin.old).told → MayOpen alone (T.both twin.old) × IsRefusedTwo generation.now fingerprint.now (T.both twin.old).first.holds (T.both twin.old).second.holds }
+    ensures other { (stored : List ℕ) → IsErrOf result (CopiesError.Files (TwinOpenError.OtherGeneration stored)) → IsTrue (T.both twin.old).told → MayOpen alone (T.both twin.old) × IsTwoOfOtherTexts stored fingerprint.now (T.both twin.old).first.holds (T.both twin.old).second.holds }
+    ensures spent { (n : ℕ) → IsErrOf result (CopiesError.Files (TwinOpenError.Spent n)) → IsTrue (T.both twin.old).told → MayOpen alone (T.both twin.old) × IsSpent generation.now fingerprint.now n (T.both twin.old).first.holds (T.both twin.old).second.holds }
+
+    // Nothing is sent. Files from which no application goes on, or may, stay as they are; else the copy that counts keeps its
+    // tables at every stop, or both files were empty and neither is a copy yet.
+    ensures sent { IsTrue (T.both twin.old).told → (T.both twin.new).sent ≡ (T.both twin.old).sent }
+    ensures still { IsTrue (T.both twin.old).told → ((t : TableRows) → MayOpen alone (T.both twin.old) → StartsFromTwo generation.now fingerprint.now (T.both twin.old).first.holds (T.both twin.old).second.holds t → ⊥) → StaysAsItIs (T.both twin.old) (T.both twin.new) (T.leaves twin.old) (T.leaves twin.new) }
+    ensures any_moment { IsTrue (T.both twin.old).told → BothRest (T.both twin.old) (T.leaves twin.old) → (t : TableRows) → StartsFromTwo generation.now fingerprint.now (T.both twin.old).first.holds (T.both twin.old).second.holds t → LeavesOpeningTwo (identity_twice generation.now fingerprint.now) t (T.both twin.old) (T.both twin.new) (T.leaves twin.new) }
+
+    ensures names { IsTrue (T.both twin.old).told → MayAttachTwo base.now (T.both twin.old) (T.both twin.new) }
+    ensures named { OnOk result (IsTrue (T.both twin.old).told → AttachesBoth base.now (T.both twin.old) (T.both twin.new)) }
+    ensures failed { IsErrOf result (CopiesError.Files TwinOpenError.Failed) → RoseAt First (T.both twin.old) (T.both twin.new) ⊎ RoseAt Second (T.both twin.old) (T.both twin.new) }
+    ensures went { (IsErrOf result (CopiesError.Files TwinOpenError.Failed) → ⊥) → FineTwo (T.both twin.old) (T.both twin.new) }
+    ensures frame { FrameTwin (T.both twin.old) (T.both twin.new) }
+{
+    if let Some(half) = find_missing(alloc, twin, base, alone)? {
+        return Err(CopiesError::Missing(half));
+    }
+    let (mut store, tables) = TwinStore::open(alloc, twin, generation, fingerprint, true)?;
+    store.mend(alloc, twin)?;
+    Ok((store, tables))
+}
+
+/// The same, whichever file is missing.
 pub fn open_copies<T: Twin>(
     alloc: Global,
     twin: &mut T,
@@ -95,10 +174,11 @@ pub fn open_copies<T: Twin>(
     ensures went { (IsErrOf result TwinOpenError.Failed → ⊥) → FineTwo (T.both twin.old) (T.both twin.new) }
     ensures frame { FrameTwin (T.both twin.old) (T.both twin.new) }
 {
-    attach_both(alloc, twin, base)?;
-    let (mut store, tables) = TwinStore::open(alloc, twin, generation, fingerprint, true)?;
-    store.mend(alloc, twin)?;
-    Ok((store, tables))
+    match open_unless_missing(alloc, twin, base, generation, fingerprint, true) {
+        Ok(opened) => Ok(opened),
+        Err(CopiesError::Files(why)) => Err(why),
+        Err(CopiesError::Missing(_)) => unreachable!(),
+    }
 }
 
 /// Attaches both files of this BASE, and reads the tables of the copy that counts. Both files stay as they are, empty too.

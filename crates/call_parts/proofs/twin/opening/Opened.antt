@@ -1,6 +1,6 @@
 -- Two files are opened: which tables a stop leaves of them, and on which halves a call failed.
 use Rattle.std.specs.Prelude.{◌≡◌, ◌⊎◌, ℕ, List, [], IsErrAnd, IsErrOf}
-use Rattle.std.proofs.Common.{inl, inr, ⊎_elim, arith, refl, sym, subst, ◌∙◌, Result, Ok, Err}
+use Rattle.std.proofs.Common.{inl, inr, ⊎_elim, arith, refl, ap, sym, subst, ◌∙◌, Result, Ok, Err}
 use Rattle.kd_device.specs.declared.error.DeviceError.{DeviceError}
 use Rattle.kd_device.specs.declared.error.DeviceError.TheVariants as device
 use Rattle.kd_records.specs.Identity.{Identity}
@@ -20,6 +20,8 @@ use Rattle.kdcfile_double.specs.Opening.{AreEmpty, AreInUseSo, IsChosenTables, I
 use Rattle.kdcfile_double.specs.declared.error.TwinOpenError.{TwinOpenError}
 use Rattle.kdcfile_double.specs.declared.error.TwinOpenError.TheVariants as to
 use Rattle.kdcfile_double.specs.Twice.{IsInUse, IsOpen, LeavesBoth, NoneRose, RoseAt, Twice, content_of, identity_of, sequence_of}
+use Rattle.call_parts.specs.declared.error.CopiesError.{CopiesError}
+use Rattle.call_parts.specs.declared.error.CopiesError.TheVariants as copies
 use Rattle.call_parts.specs.TwoAnswersLaws.{nothing_counts}
 use Rattle.call_parts.specs.BehindLaws.{AreOpened, empty_or_not}
 use Rattle.call_parts.specs.OpeningTwo.{LeavesOpeningTwo, StaysAsItIs}
@@ -174,3 +176,21 @@ pub failed_of : (T U : Type 0) (r : Result T TwinOpenError) (e : DeviceError) �
 failed_of T U (Ok x) e gives is = absurd gives
 failed_of T U (Err x) device.Failed gives is = refl
 failed_of T U (Err x) device.Memory gives is = absurd cc
+
+-- ---- errors of both files, unless one is missing
+
+pub disk_failed : (T U : Type 0) (r : Result T CopiesError) (e : DeviceError) → IsErrAnd r (λ x. x ≡ copies.Files (of_device e)) → IsErrOf r (copies.Files to.Failed) → IsErrOf {T = U} (Err e) device.Failed
+disk_failed T U (Ok x) e gives is = absurd gives
+disk_failed T U (Err x) device.Failed gives is = refl
+disk_failed T U (Err x) device.Memory gives is = absurd cc
+
+-- no error of a disk is another one
+pub disk_told : (T : Type 0) (r : Result T CopiesError) (e : DeviceError) → IsErrAnd r (λ x. x ≡ copies.Files (of_device e))
+    → (IsErrOf r (copies.Files to.NotKdcfile) → ⊥) × ((stored : List ℕ) → IsErrOf r (copies.Files (to.OtherGeneration stored)) → ⊥) × ((n : ℕ) → IsErrOf r (copies.Files (to.Spent n)) → ⊥)
+disk_told T (Ok x) e gives = absurd gives
+disk_told T (Err x) device.Failed gives = (λ is. absurd cc, λ stored is. absurd cc, λ n is. absurd cc)
+disk_told T (Err x) device.Memory gives = (λ is. absurd cc, λ stored is. absurd cc, λ n is. absurd cc)
+
+pub files_same : (T U : Type 0) (r : Result T CopiesError) (e x : TwinOpenError) → IsErrAnd r (λ y. y ≡ copies.Files e) → IsErrOf r (copies.Files x) → IsErrOf {T = U} (Err e) x
+files_same T U (Ok v) e x gives is = absurd gives
+files_same T U (Err y) e x gives is = let h : e ≡ x = cc in ap (λ (z : TwinOpenError). Err z) h

@@ -19,7 +19,7 @@ use Rattle.call_parts.specs.declared.words.Word.TheVariants.{Gen}
 use Rattle.call_parts.proofs.AskedSaid.{no_second, of_two_word, one_alone, one_found, two_alone, two_found}
 use Rattle.call_parts.proofs.OneHalf.{first_refusal}
 use Rattle.live_cli.specs.Ends.{EndsLive}
-use Rattle.live_cli.proofs.Answering.{asked_base, asked_none, fit_of, gen_is, not_missed, refused_call, run_not, session_call, some_base, texts_code, two_not, usage_call, usage_not, without_memory, without_room}
+use Rattle.live_cli.proofs.Answering.{asked_alone, asked_base, asked_none, fit_of, gen_is, not_missed, refused_call, run_not, session_call, some_base, texts_code, two_not, usage_call, usage_not, without_memory, without_room}
 use Rattle.live_cli.proofs.AnsweringTwo.{double_call, idle_call, read_two, single_call}
 use Rattle.live_cli.proofs.top.live.Goals as goal
 
@@ -27,7 +27,7 @@ use Rattle.live_cli.proofs.top.live.Goals as goal
 
 pub returns-in_default : goal.returns-in_default
 returns-in_default g c =
-    let none = asked_none _ _ _ c.deref.ensures.value c.in_default.ensures in
+    let none = asked_none _ _ _ c.deref.ensures.value c.in_default.ensures.base in
     let sent = c.refuse_beside.ensures in
     record {
       answers = single_call (map string_bytes c.args.words.now.items) (g.R.Room.room c.args.room.now) (g.R.Room.room c.args.room.now) (g.T.Twin.both c.args.twin.now) (g.T.Twin.both c.refuse_beside.new.twin) (g.T.Twin.leaves c.args.twin.now) (g.T.Twin.leaves c.refuse_beside.new.twin) (g.I.Typing.typing c.args.typing.now) (g.I.Typing.typing c.args.typing.now) c.refuse_beside.result.code
@@ -47,7 +47,7 @@ pub returns-in-Ok-One : goal.returns-in-Ok-One
 returns-in-Ok-One g c =
     let r = (g.R.Room.room c.args.room.now) in
     let base = c.in-Some.base.now in
-    let asked = (asked_base _ _ _ c.in-Some.base.now c.deref.ensures.value c.in-Some.ensures) in
+    let asked = (asked_base _ _ _ c.in-Some.base.now c.deref.ensures.value c.in-Some.ensures.base) in
     let f = c.in-Ok-One.asked in
     let word : (one_errand f).word ≡ Gen = subst (IsOfWord Gen) c.in-Ok-One.field-0-is c.in-Ok-One.ensures.word in
     let own : one_errand f ≡ gen_errand (work_of f) = gen_is f word in
@@ -84,10 +84,10 @@ returns-in-Ok-Two-default-Over g c =
     let base = c.in-Some.base.now in
     let own : errand_for c.in-Ok-Two-default-Over.work c.in-Ok-Two-default-Over._task ≡ gen_errand c.in-Ok-Two-default-Over.work = gen_is (file.Over c.in-Ok-Two-default-Over.work c.in-Ok-Two-default-Over._task) (of_two_word Gen base r _ c.in-Ok-Two-default-Over.ensures.says c.in-Ok-Two-default-Over._line (files.Over c.in-Ok-Two-default-Over.work c.in-Ok-Two-default-Over._task) (c.in-Ok-Two-default-Over.field-0-is ∙ ap (λ (k : TwoFiles). Two c.in-Ok-Two-default-Over._line k) c.in-Ok-Two-default-Over.field-0-1-is) c.in-Ok-Two-default-Over.ensures.word) in
     record {
-      answers = double_call (map string_bytes c.args.words.now.items) r (g.R.Room.room c.read_texts.new.room) base (asked_base _ _ _ c.in-Some.base.now c.deref.ensures.value c.in-Some.ensures) c.in-Ok-Two-default-Over.ensures.same c.in-Ok-Two-default-Over.ensures.fine (gen_errand c.in-Ok-Two-default-Over.work)
+      answers = double_call (map string_bytes c.args.words.now.items) r (g.R.Room.room c.read_texts.new.room) base (asked_base _ _ _ c.in-Some.base.now c.deref.ensures.value c.in-Some.ensures.base) c.in-Ok-Two-default-Over.ensures.same c.in-Ok-Two-default-Over.ensures.fine (gen_errand c.in-Ok-Two-default-Over.work)
           (λ told. subst (λ (e : Errand). ReadsForTwo Gen base r (Ok e)) own (two_found Gen base r _ c.in-Ok-Two-default-Over.ensures.says c.in-Ok-Two-default-Over._line (files.Over c.in-Ok-Two-default-Over.work c.in-Ok-Two-default-Over._task) (c.in-Ok-Two-default-Over.field-0-is ∙ ap (λ (k : TwoFiles). Two c.in-Ok-Two-default-Over._line k) c.in-Ok-Two-default-Over.field-0-1-is) (inl told)))
           (λ told. subst (λ (e : Errand). (said : Reading) → ReadsForTwo Gen base r said → said ≡ Ok e) own (two_alone Gen base r _ c.in-Ok-Two-default-Over.ensures.says c.in-Ok-Two-default-Over._line (files.Over c.in-Ok-Two-default-Over.work c.in-Ok-Two-default-Over._task) (c.in-Ok-Two-default-Over.field-0-is ∙ ap (λ (k : TwoFiles). Two c.in-Ok-Two-default-Over._line k) c.in-Ok-Two-default-Over.field-0-1-is) (inl told)))
-          (g.I.Typing.typing c.args.typing.now) (g.I.Typing.typing c.double.new.typing) (g.T.Twin.both c.args.twin.now) (g.T.Twin.both c.double.new.twin) (g.T.Twin.leaves c.args.twin.now) (g.T.Twin.leaves c.double.new.twin) c.double.result.code c.double.ensures;
+          (g.I.Typing.typing c.args.typing.now) (g.I.Typing.typing c.double.new.typing) (g.T.Twin.both c.args.twin.now) (g.T.Twin.both c.double.new.twin) (g.T.Twin.leaves c.args.twin.now) (g.T.Twin.leaves c.double.new.twin) c.double.result.code c.in-Some.alone (asked_alone _ _ _ c.in-Some.alone c.deref.ensures.value c.in-Some.ensures.alone) c.double.ensures;
       laws = c.sessions_live_lawfully.ensures;
     }
 
@@ -101,7 +101,7 @@ pub returns-in-Err-Refused : goal.returns-in-Err-Refused
 returns-in-Err-Refused g c =
     let r = (g.R.Room.room c.args.room.now) in
     let base = c.in-Some.base.now in
-    let asked = (asked_base _ _ _ c.in-Some.base.now c.deref.ensures.value c.in-Some.ensures) in
+    let asked = (asked_base _ _ _ c.in-Some.base.now c.deref.ensures.value c.in-Some.ensures.base) in
     let why = c.in-Err-Refused.why in
     let is = ap (λ (e : TextError). Err e) c.in-Err-Refused.field-0-is in
     let code = c.refuse_beside-in-Err-Refused.result.code in
@@ -123,8 +123,8 @@ pub returns-in-Err-Room : goal.returns-in-Err-Room
 returns-in-Err-Room g c =
     let is = ap (λ (e : TextError). Err e) c.in-Err-Room.field-0-is in
     record {
-      answers = idle_call (map string_bytes c.args.words.now.items) (g.R.Room.room c.args.room.now) (g.R.Room.room c.read_texts.new.room) c.in-Some.base.now (asked_base _ _ _ c.in-Some.base.now c.deref.ensures.value c.in-Some.ensures) c.in-Err-Room.ensures.same (g.I.Typing.typing c.args.typing.now) (g.T.Twin.both c.args.twin.now) (g.T.Twin.leaves c.args.twin.now) 6 refl
-          (without_room (map string_bytes c.args.words.now.items) (g.R.Room.room c.args.room.now) (g.R.Room.room c.read_texts.new.room) c.in-Some.base.now (asked_base _ _ _ c.in-Some.base.now c.deref.ensures.value c.in-Some.ensures) c.in-Err-Room.ensures.same (g.I.Typing.typing c.args.typing.now) (half_state First (g.T.Twin.both c.args.twin.now)) (half_leaves First (g.T.Twin.leaves c.args.twin.now)) (c.in-Err-Room.ensures.room is) (λ sure d u s there. c.in-Err-Room.ensures.sure sure d u s there is));
+      answers = idle_call (map string_bytes c.args.words.now.items) (g.R.Room.room c.args.room.now) (g.R.Room.room c.read_texts.new.room) c.in-Some.base.now (asked_base _ _ _ c.in-Some.base.now c.deref.ensures.value c.in-Some.ensures.base) c.in-Err-Room.ensures.same (g.I.Typing.typing c.args.typing.now) (g.T.Twin.both c.args.twin.now) (g.T.Twin.leaves c.args.twin.now) 6 refl
+          (without_room (map string_bytes c.args.words.now.items) (g.R.Room.room c.args.room.now) (g.R.Room.room c.read_texts.new.room) c.in-Some.base.now (asked_base _ _ _ c.in-Some.base.now c.deref.ensures.value c.in-Some.ensures.base) c.in-Err-Room.ensures.same (g.I.Typing.typing c.args.typing.now) (half_state First (g.T.Twin.both c.args.twin.now)) (half_leaves First (g.T.Twin.leaves c.args.twin.now)) (c.in-Err-Room.ensures.room is) (λ sure d u s there. c.in-Err-Room.ensures.sure sure d u s there is));
       laws = c.sessions_live_lawfully.ensures;
     }
 
@@ -132,7 +132,7 @@ pub returns-in-Err-Memory : goal.returns-in-Err-Memory
 returns-in-Err-Memory g c =
     let is = ap (λ (e : TextError). Err e) c.in-Err-Memory.field-0-is in
     record {
-      answers = idle_call (map string_bytes c.args.words.now.items) (g.R.Room.room c.args.room.now) (g.R.Room.room c.read_texts.new.room) c.in-Some.base.now (asked_base _ _ _ c.in-Some.base.now c.deref.ensures.value c.in-Some.ensures) c.in-Err-Memory.ensures.same (g.I.Typing.typing c.args.typing.now) (g.T.Twin.both c.args.twin.now) (g.T.Twin.leaves c.args.twin.now) 7 refl
-          (without_memory (map string_bytes c.args.words.now.items) (g.R.Room.room c.args.room.now) (g.R.Room.room c.read_texts.new.room) c.in-Some.base.now (asked_base _ _ _ c.in-Some.base.now c.deref.ensures.value c.in-Some.ensures) c.in-Err-Memory.ensures.same (g.I.Typing.typing c.args.typing.now) (half_state First (g.T.Twin.both c.args.twin.now)) (half_leaves First (g.T.Twin.leaves c.args.twin.now)) (c.in-Err-Memory.ensures.memory is));
+      answers = idle_call (map string_bytes c.args.words.now.items) (g.R.Room.room c.args.room.now) (g.R.Room.room c.read_texts.new.room) c.in-Some.base.now (asked_base _ _ _ c.in-Some.base.now c.deref.ensures.value c.in-Some.ensures.base) c.in-Err-Memory.ensures.same (g.I.Typing.typing c.args.typing.now) (g.T.Twin.both c.args.twin.now) (g.T.Twin.leaves c.args.twin.now) 7 refl
+          (without_memory (map string_bytes c.args.words.now.items) (g.R.Room.room c.args.room.now) (g.R.Room.room c.read_texts.new.room) c.in-Some.base.now (asked_base _ _ _ c.in-Some.base.now c.deref.ensures.value c.in-Some.ensures.base) c.in-Err-Memory.ensures.same (g.I.Typing.typing c.args.typing.now) (half_state First (g.T.Twin.both c.args.twin.now)) (half_leaves First (g.T.Twin.leaves c.args.twin.now)) (c.in-Err-Memory.ensures.memory is));
       laws = c.sessions_live_lawfully.ensures;
     }
