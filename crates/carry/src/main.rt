@@ -2,7 +2,8 @@
 //!
 //! It stands on carry_cli, whose calls `carry` and `backup` carry all promises, and on kd_host, the trusted edge. The files
 //! are opened for reading alone by `state`, by `backup` and with `--try`; else one that is not there is made by the first
-//! write. Before a backup its texts are copied, which no contract covers.
+//! write. Before a backup its texts are copied, and what was made for one that did not become ready is removed, which no
+//! contract covers.
 #![tactic(auto)]
 
 use carry_cli::{There, backup, backup_of, carry};
@@ -88,19 +89,55 @@ fn copies_text(
     Ok(copy_to_new(rt, "carry", &from, &new).is_ok())
 }
 
-/// Backs up the files of this BASE, with its texts.
-fn backed_up(rt: &HostRuntime, words: &Vec<String>, base: &str, to: &str) -> u8 {
-    for ending in [".def", ".units"] {
-        match copies_text(rt, base, to, ending) {
-            Ok(true) => {}
-            Ok(false) => return NO_TEXT,
-            Err(_) => return NO_ANSWER,
-        }
+/// Removes the file of TO with this ending, which the call has made. What cannot be removed stays.
+fn remove(rt: &(impl Files + AllocGlobal), to: &str, ending: &str) {
+    if let Ok(name) = format!(in rt.alloc(); "{to}{ending}") {
+        let _ = fs::remove_file(rt, &name);
     }
+}
+
+/// Backs up the files of this BASE, whose texts are copied. A file that was not there before stays only where it is a
+/// backup.
+fn files_backed_up(rt: &HostRuntime, words: &Vec<String>, to: &str) -> u8 {
+    let Ok(was_there) = is_there(rt, to, ".KDCA") else {
+        return NO_ANSWER;
+    };
     let mut room = FolderRoom::new(rt, "carry");
     let mut twin = FileTwin::reading(rt, "carry");
     let mut device = FileDevice::making_late(rt, "carry");
-    backup(rt.alloc(), words, &mut room, &mut twin, &mut device).code
+    let code = backup(rt.alloc(), words, &mut room, &mut twin, &mut device).code;
+    if code != 0 && !was_there {
+        remove(rt, to, ".KDCA");
+    }
+    code
+}
+
+/// The same after the units are copied, which stay only beside a backup.
+fn backed_up_with_units(rt: &HostRuntime, words: &Vec<String>, base: &str, to: &str) -> u8 {
+    match copies_text(rt, base, to, ".units") {
+        Ok(true) => {}
+        Ok(false) => return NO_TEXT,
+        Err(_) => return NO_ANSWER,
+    }
+    let code = files_backed_up(rt, words, to);
+    if code != 0 {
+        remove(rt, to, ".units");
+    }
+    code
+}
+
+/// Backs up the files of this BASE, with its texts.
+fn backed_up(rt: &HostRuntime, words: &Vec<String>, base: &str, to: &str) -> u8 {
+    match copies_text(rt, base, to, ".def") {
+        Ok(true) => {}
+        Ok(false) => return NO_TEXT,
+        Err(_) => return NO_ANSWER,
+    }
+    let code = backed_up_with_units(rt, words, base, to);
+    if code != 0 {
+        remove(rt, to, ".def");
+    }
+    code
 }
 
 fn main(rt: HostRuntime) -> ExitCode {

@@ -1,5 +1,5 @@
 -- How a call that backs up files ends.
-use Rattle.std.specs.Prelude.{◌≡◌, ◌⊎◌, ℕ, IsTrue, List, [], ◌∷◌, ◌++◌, Some, None, Result, Ok, Err}
+use Rattle.std.specs.Prelude.{◌≡◌, ◌⊎◌, ◌≤◌, ◌+◌, ℕ, IsTrue, List, [], ◌∷◌, ◌++◌, Some, None, Result, Ok, Err}
 use Rattle.std.proofs.Common.{inl, inr, ⊎_elim, refl, sym, ap, subst, ◌∙◌, arith}
 use Rattle.std.proofs.lemmas.Bool.Decides.{nat_tests}
 use Rattle.std.proofs.lemmas.Option.{same_Some}
@@ -20,6 +20,7 @@ use Rattle.kd_update.specs.declared.error.UpdateError.TheVariants as cause
 use Rattle.kdcfile_carry.specs.Doing.{RoseOnOne}
 use Rattle.kdcfile_carry.specs.Files.{AreFiles, Files, HaveTwoMeanings}
 use Rattle.kdcfile_carry.specs.Ways.{AreRefusedAs, AreSpent, MayCarry}
+use Rattle.kdcfile_carry.specs.Writing.{backup_most}
 use Rattle.kdcfile_carry.specs.declared.backing.BackUpError.{BackUpError}
 use Rattle.kdcfile_carry.specs.declared.backing.BackUpError.TheVariants as errors
 use Rattle.kdcfile_carry.specs.declared.error.FilesError.{FilesError}
@@ -38,6 +39,7 @@ use Rattle.carry_cli.specs.Carrying.{Hinders, NoneIsMissing, generation_of}
 use Rattle.carry_cli.specs.Doing.{hindrance_of, judged_as, no_backup, no_backup_by}
 use Rattle.carry_cli.specs.Promise.{AsksToCarry, EndsUsage, RefusesTexts}
 use Rattle.carry_cli.specs.Words.{backup_of, plain}
+use Rattle.carry_cli.specs.Writing.{BackupWrites}
 use Rattle.carry_cli.specs.declared.answer.Hindrance.{Hindrance}
 use Rattle.carry_cli.specs.declared.answer.Hindrance.TheVariants as hindrance
 use Rattle.carry_cli.specs.declared.backing.BackupAnswer.{BackupAnswer}
@@ -178,6 +180,22 @@ module _ (base to : List ℕ) (a b : Both) (la lb : ℕ → List ℕ → List �
           (is (told_b told) (told_t told_to)
           (subst (λ (l : List ℕ). NoneIsMissing plain b.first.holds l) (sym was.second_holds) (subst (λ (l : List ℕ). NoneIsMissing plain l a.second.holds) (sym was.first_holds) (none told))))))
 
+      pub writes_since : (e : Errand) → (IsTrue b.told → IsTrue t.told → BackupWrites e b t u) → IsTrue a.told → IsTrue s.told → BackupWrites e a s u
+      writes_since e h told told_to = by (h (told_b told) (told_t told_to))
+        where
+          by : BackupWrites e b t u → BackupWrites e a s u
+          by (inl none) = inl (none ∙ (stays told_to).put)
+          by (inr w) =
+              inr (
+                sym (stays told_to).holds ∙ w.0,
+                (
+                  w.1.0,
+                  subst (λ (l : List ℕ). AreFiles w.1.0 l a.second.holds) (rests told).files.first_holds (subst (λ (l : List ℕ). AreFiles w.1.0 b.first.holds l) (rests told).files.second_holds w.1.1),
+                  w.1.2,
+                  subst (λ (n : ℕ). u.put ≤ n + backup_most (generation_of e) e.fingerprint w.1.0.tables) (stays told_to).put w.1.3,
+                ),
+              )
+
       module _ (quiet : NoneRose a b) (fine : SameFaults s t) where
         pub rose_since : RoseOnOne b c ⊎ Rose t.disk_faults u.disk_faults → RoseOnOne a c ⊎ Rose s.disk_faults u.disk_faults
         rose_since rose = ⊎_elim (λ files. inl (one_rose_then a b c quiet files)) (λ other. inr (subst (λ (n : ℕ). Rose n u.disk_faults) fine.disk other)) rose
@@ -202,7 +220,7 @@ no_fault backup.OtherTexts is = absurd cc
 no_fault backup.NotEmpty is = absurd cc
 no_fault backup.Differs is = absurd cc
 
-module _ (e : Errand) (base to : List ℕ) (a b : Both) (s s' : State) (leaves : ℕ → List ℕ → List ℕ → Type 0) (all : LeavesBackup base to a b s s') where
+module _ (e : Errand) (base to : List ℕ) (a b : Both) (s s' : State) (leaves : ℕ → List ℕ → List ℕ → Type 0) (all : LeavesBackup base to a b s s') (written : IsTrue a.told → IsTrue s.told → BackupWrites e a s s') where
   pub files_failed : RoseOnOne a b ⊎ Rose s.disk_faults s'.disk_faults → EndsBackupOver e base to a b s s' leaves 5
   files_failed rose = record {
     code = refl;
@@ -210,6 +228,7 @@ module _ (e : Errand) (base to : List ℕ) (a b : Both) (s s' : State) (leaves :
     device = λ is. ⊎_elim (λ files. inl (inr files)) (λ other. inr other) rose;
     fine = λ not. absurd (not refl);
     leaves_all = all;
+    written = written;
   }
 
   module _ (none : NoneRose a b × SameFaults s s') where
@@ -220,6 +239,7 @@ module _ (e : Errand) (base to : List ℕ) (a b : Both) (s s' : State) (leaves :
       device = λ is. absurd cc;
       fine = λ not. record { files = none.0; to = none.1 };
       leaves_all = all;
+      written = written;
     }
 
     -- and then this was to be said
@@ -254,6 +274,7 @@ module _ (e : Errand) (base to : List ℕ) (a b : Both) (s s' : State) (leaves :
         device = λ five. absurd (no_fault x (sym ends ∙ five));
         fine = λ not. fine_now faults;
         leaves_all = all_now;
+        written = written;
       }
 
       pub line_failed : Rose b.line_faults c.line_faults → EndsBackupOver e base to a c s s' leaves 5
@@ -263,6 +284,7 @@ module _ (e : Errand) (base to : List ℕ) (a b : Both) (s s' : State) (leaves :
         device = λ five. inl (inl (subst (λ (n : ℕ). Rose n c.line_faults) none.0.line_same rose));
         fine = λ not. absurd (not refl);
         leaves_all = all_now;
+        written = written;
       }
 
       pub line_memory : c.line_faults ≡ b.line_faults → EndsBackupOver e base to a c s s' leaves 7
@@ -272,6 +294,7 @@ module _ (e : Errand) (base to : List ℕ) (a b : Both) (s s' : State) (leaves :
         device = λ five. absurd cc;
         fine = λ not. fine_now faults;
         leaves_all = all_now;
+        written = written;
       }
 
 -- ---- from what the texts ask for
@@ -315,6 +338,7 @@ module _ (base to : List ℕ) (r r' : RoomState) (a : Both) (s : State) where
     device = ends.device;
     fine = ends.fine;
     leaves_all = ends.leaves_all;
+    written = λ told told_to. inr (e, asks, ends.written told told_to);
   }
 
   -- they are refused
@@ -341,6 +365,7 @@ module _ (base to : List ℕ) (r r' : RoomState) (a : Both) (s : State) where
           frame = sends.frame;
           to_frame = device_none s;
         };
+        written = λ told told_to. inl refl;
       }
 
   -- they were not read
@@ -362,6 +387,7 @@ module _ (base to : List ℕ) (r r' : RoomState) (a : Both) (s : State) where
       frame = frame_none a;
       to_frame = device_none s;
     };
+    written = λ told told_to. inl refl;
   }
 
 -- ---- the call

@@ -6,6 +6,7 @@ use Rattle.kd_device.specs.Device.{Rose}
 use Rattle.kd_device.specs.Room.{RoomState}
 use Rattle.kd_device.specs.Twin.{Both}
 use Rattle.kdcfile_double.specs.Opening.{SameFiles}
+use Rattle.kdcfile_carry.specs.WritingLaws.{none_here, none_of_same}
 use Rattle.refusals.specs.Lines.{refusal_line}
 use Rattle.refusals.specs.Statuses.{IsOneOf, status_of}
 use Rattle.refusals.specs.declared.error.Refusal.{Refusal}
@@ -65,6 +66,7 @@ module _ (base : List ℕ) (o : Options) (r r' : RoomState) (a : Both) (la : ℕ
       unread = λ six. absurd (not_six status ends.code six);
       sure = λ six. absurd (not_six status ends.code six);
       tried = ends.tried;
+      written = λ told. inr (e, asks, ends.written told);
       device = ends.device;
       names = ends.names;
       frame = ends.frame;
@@ -82,6 +84,7 @@ module _ (base : List ℕ) (o : Options) (r r' : RoomState) (a : Both) (la : ℕ
           unread = λ six. absurd (read_six status code six);
           sure = λ six. absurd (read_six status code six);
           tried = λ told only. said_files (refusal_line why) (status_of why) a b status sends told;
+          written = λ told. inl (none_of_same a b (said_files (refusal_line why) (status_of why) a b status sends told));
           device = λ five. inl (sends.failed five);
           names = λ told half. inl (sends.names half);
           frame = sends.frame;
@@ -97,6 +100,7 @@ module _ (base : List ℕ) (o : Options) (r r' : RoomState) (a : Both) (la : ℕ
     unread = λ six. (room six, refl);
     sure = sure;
     tried = λ told only. same_none a;
+    written = λ told. inl (none_here a);
     device = λ five. absurd (idle_not status code (subst (λ (n : ℕ). IsOneOf (0 ∷ 2 ∷ 4 ∷ 5 ∷ 10 ∷ []) n) (sym five) refl));
     names = λ told half. inl refl;
     frame = frame_none a;

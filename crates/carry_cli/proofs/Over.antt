@@ -13,13 +13,15 @@ use Rattle.kdcfile_carry.specs.Doing.{AreEither, RoseOnOne}
 use Rattle.kdcfile_carry.specs.Files.{AreFiles, Files}
 use Rattle.kdcfile_carry.specs.Leaving.{StaysWithin}
 use Rattle.kdcfile_carry.specs.Ways.{IsTaken, files_after}
+use Rattle.kdcfile_carry.specs.WritingLaws.{most_then}
 use Rattle.refusals.specs.Statuses.{IsOneOf}
 use Rattle.call_parts.specs.Asking.{Errand}
 use Rattle.call_parts.specs.LeavingTwo.{FrameTwin, MayAttachTwo}
-use Rattle.carry_cli.specs.Carrying.{IsStopOfCarry, generation_of}
+use Rattle.carry_cli.specs.Carrying.{IsStopOfCarry, LosesNone, generation_of}
 use Rattle.carry_cli.specs.Doing.{IsNow}
 use Rattle.carry_cli.specs.Promise.{EndsOver}
 use Rattle.carry_cli.specs.Telling.{answer_status, answer_text}
+use Rattle.carry_cli.specs.Writing.{CarryWrites}
 use Rattle.carry_cli.specs.declared.answer.Answer.{Answer}
 use Rattle.carry_cli.specs.declared.answer.Answer.TheVariants as answer
 use Rattle.carry_cli.specs.declared.words.Options.{Options}
@@ -49,7 +51,7 @@ rests_since a b s h k = record { first_holds = k.first_holds ∙ h.first_holds; 
 module _ (e : Errand) (base : List ℕ) (o : Options) (a b : Both) (la lb : ℕ → List ℕ → List ℕ → List ℕ → Type 0) (sent_now : IsTrue a.told → (c d out : List ℕ) → la a.moment c d out → out ≡ a.sent)
     (any_moment : IsTrue a.told → BothRest a la → (f : Files) → AreFiles f a.first.holds a.second.holds → StaysWithin (AreEither f (files_after (generation_of e) e.fingerprint f)) a b la lb)
     (still : IsTrue a.told → ((f : Files) → AreFiles f a.first.holds a.second.holds → IsTaken (generation_of e) e.fingerprint f → ⊥) → RestsBoth a b la lb)
-    (tried : IsTrue a.told → o.only_tries ≡ true → RestsBoth a b la lb) (names : IsTrue a.told → MayAttachTwo base a b) (frame : FrameTwin a b) where
+    (tried : IsTrue a.told → o.only_tries ≡ true → RestsBoth a b la lb) (written : IsTrue a.told → CarryWrites e o a b) (names : IsTrue a.told → MayAttachTwo base a b) (frame : FrameTwin a b) where
   pub files_failed : RoseOnOne a b → EndsOver e base o a b la lb 5
   files_failed rose = record {
     code = refl;
@@ -57,6 +59,7 @@ module _ (e : Errand) (base : List ℕ) (o : Options) (a b : Both) (la lb : ℕ 
     any_moment = λ told rest f are c d out left. stop_before e o a b la lb rest (sent_now told) f are (any_moment told rest f are) c d out left;
     still = λ told untaken. (still told untaken).files;
     tried = λ told only. (tried told only).files;
+    written = written;
     device = λ is. inr rose;
     names = names;
     frame = frame;
@@ -69,6 +72,7 @@ module _ (e : Errand) (base : List ℕ) (o : Options) (a b : Both) (la lb : ℕ 
     any_moment = λ told rest f are c d out left. stop_before e o a b la lb rest (sent_now told) f are (any_moment told rest f are) c d out left;
     still = λ told untaken. (still told untaken).files;
     tried = λ told only. (tried told only).files;
+    written = written;
     device = λ is. absurd cc;
     names = names;
     frame = frame;
@@ -90,6 +94,9 @@ module _ (e : Errand) (base : List ℕ) (o : Options) (a b : Both) (la lb : ℕ 
     tried_now : IsTrue a.told → o.only_tries ≡ true → SameFiles a s
     tried_now told only = rests_since a b s (tried told only).files (same_files b s disks)
 
+    written_now : IsTrue a.told → CarryWrites e o a s
+    written_now told = most_then a b s (same_files b s disks) (generation_of e) e.fingerprint (λ f. LosesNone e o f) (written told)
+
     names_now : IsTrue a.told → MayAttachTwo base a s
     names_now told = names_then base a b s (names told) (λ half. ap (λ (d : Disk). d.names) (disks half))
 
@@ -108,6 +115,7 @@ module _ (e : Errand) (base : List ℕ) (o : Options) (a b : Both) (la lb : ℕ 
       any_moment = moment_now;
       still = still_now;
       tried = tried_now;
+      written = written_now;
       device = λ five. absurd (no_fault x (sym ends ∙ five));
       names = names_now;
       frame = frame_now;
@@ -120,6 +128,7 @@ module _ (e : Errand) (base : List ℕ) (o : Options) (a b : Both) (la lb : ℕ 
       any_moment = moment_now;
       still = still_now;
       tried = tried_now;
+      written = written_now;
       device = λ five. inl rose;
       names = names_now;
       frame = frame_now;
@@ -132,6 +141,7 @@ module _ (e : Errand) (base : List ℕ) (o : Options) (a b : Both) (la lb : ℕ 
       any_moment = moment_now;
       still = still_now;
       tried = tried_now;
+      written = written_now;
       device = λ five. absurd cc;
       names = names_now;
       frame = frame_now;

@@ -20,6 +20,7 @@ use Rattle.carry_cli.specs.Carrying.{Hinders, NoneIsMissing, generation_of}
 use Rattle.carry_cli.specs.Promise.{AsksToCarry, EndsUsage, RefusesTexts}
 use Rattle.carry_cli.specs.Telling.{hindrance_line}
 use Rattle.carry_cli.specs.Words.{backup_of, plain}
+use Rattle.carry_cli.specs.Writing.{BackupWrites, BackupWritesFor}
 use Rattle.carry_cli.specs.declared.backing.BackupAnswer.{BackupAnswer}
 use Rattle.carry_cli.specs.declared.backing.BackupAnswer.TheVariants as backup
 
@@ -81,6 +82,8 @@ pub record EndsBackupOver (e : Errand) (base to : List ℕ) (a b : Both) (s s' :
   pub device : status ≡ 5 → FaultsBackup a b s s'
   pub fine : (status ≡ 5 → ⊥) → FineBackup a b s s'
   pub leaves_all : LeavesBackup base to a b s s'
+  -- no more is written than that, whatever the status
+  pub written : IsTrue a.told → IsTrue s.told → BackupWrites e a s s'
 
 -- a call that backs up the files of BASE to TO.KDCA ended with this status
 pub record EndsBackup (base to : List ℕ) (room room' : RoomState) (a b : Both) (s s' : State) (leaves : ℕ → List ℕ → List ℕ → Type 0) (status : ℕ) : Type 0 where
@@ -96,6 +99,8 @@ pub record EndsBackup (base to : List ℕ) (room room' : RoomState) (a b : Both)
   pub device : status ≡ 5 → FaultsBackup a b s s'
   pub fine : (status ≡ 5 → ⊥) → FineBackup a b s s'
   pub leaves_all : LeavesBackup base to a b s s'
+  -- no more is written than that, whatever the status
+  pub written : IsTrue a.told → IsTrue s.told → BackupWritesFor (λ e. AsksToCarry base room e) room a s s'
 
 -- a call with these words ended with this status, and left this room and these files
 pub record AnswersBackup (words : List (List ℕ)) (room room' : RoomState) (a b : Both) (s s' : State) (leaves : ℕ → List ℕ → List ℕ → Type 0) (status : ℕ) : Type 0 where

@@ -2,6 +2,7 @@ pub mod Kinds
 pub mod KindsLaws
 pub mod Lines
 pub mod Words
+pub mod Writing
 pub mod Rows
 pub mod Telling
 pub mod Seeing

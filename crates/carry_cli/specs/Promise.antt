@@ -19,6 +19,7 @@ use Rattle.carry_cli.specs.Kinds.{IsStateOf}
 use Rattle.carry_cli.specs.Lines.{state_lines}
 use Rattle.carry_cli.specs.Telling.{answer_status, answer_text}
 use Rattle.carry_cli.specs.Words.{carry_of, carry_usage_line, state_of}
+use Rattle.carry_cli.specs.Writing.{CarryWrites, CarryWritesFor}
 use Rattle.carry_cli.specs.declared.answer.Answer.{Answer}
 use Rattle.carry_cli.specs.declared.kinds.State.{State}
 use Rattle.carry_cli.specs.declared.kinds.There.{There}
@@ -86,6 +87,8 @@ pub record EndsOver (e : Errand) (base : List ℕ) (o : Options) (a b : Both) (l
   -- files that are refused stay as they are, whatever the status, and so do all where it is only tried
   pub still : IsTrue a.told → ((f : Files) → AreFiles f a.first.holds a.second.holds → IsTaken (generation_of e) e.fingerprint f → ⊥) → SameFiles a b
   pub tried : IsTrue a.told → o.only_tries ≡ true → SameFiles a b
+  -- no more is written than that, whatever the status
+  pub written : IsTrue a.told → CarryWrites e o a b
   -- 5: a call of a disk or of the line failed
   pub device : status ≡ 5 → FaultsTwo a b
   -- the files BASE.KDCA and BASE.KDCB, and no others, were attached
@@ -102,8 +105,9 @@ pub record EndsCarry (base : List ℕ) (o : Options) (room room' : RoomState) (a
   -- 6: a read of a text failed; never where the texts are there and the room is sure
   pub unread : status ≡ 6 → Rose room.faults room'.faults × (b ≡ a)
   pub sure : status ≡ 6 → IsTrue room.sure → (d u s : List ℕ) → AreThere Update base room d u s → ⊥
-  -- no byte is written where it is only tried
+  -- no byte is written where it is only tried, and else no more than that, whatever the status
   pub tried : IsTrue a.told → o.only_tries ≡ true → SameFiles a b
+  pub written : IsTrue a.told → CarryWritesFor (λ e. AsksToCarry base room e) room o a b
   pub device : status ≡ 5 → FaultsTwo a b
   pub names : IsTrue a.told → MayAttachTwo base a b
   pub frame : FrameTwin a b

@@ -4,7 +4,7 @@ ghost use Rattle.kd_device.specs.{Device.{Frame, Rose, SameFaults, SameNames}, R
 ghost use Rattle.kdcfile_double.specs.{Opening.{SameFiles}, Twice.{FrameBoth, NoneRose}};
 ghost use Rattle.kdcfile_carry.specs.Doing.{RoseOnOne};
 ghost use Rattle.call_parts.specs.{Asking.{update_errand}, Leaving.{MayAttach}, Words.{file_name}};
-ghost use Rattle.carry_cli.specs.{BackingUp.{EndsBackupOver, IsBackup, LeavesBackup, backup_line, backup_status}, Carrying.{NoneIsMissing}, Doing.{no_backup}, Words.{plain}};
+ghost use Rattle.carry_cli.specs.{BackingUp.{EndsBackupOver, IsBackup, LeavesBackup, backup_line, backup_status}, Carrying.{NoneIsMissing}, Doing.{no_backup}, Words.{plain}, Writing.{BackupWrites}};
 
 use crate::answer::{Hindrance, hindrance_line};
 use crate::carrying::hindrance_of;
@@ -101,6 +101,7 @@ fn back_up_over<T: Twin, D: Device>(
     ensures files { IsTrue (T.both twin.old).told → SameFiles (T.both twin.old) (T.both twin.new) }
     ensures still { IsTrue (D.state device.old).told → ((D.state device.old).holds ≡ [] → ⊥) → (D.state device.new).holds ≡ (D.state device.old).holds }
     ensures silent { IsTrue (D.state device.old).told → (D.state device.new).sent ≡ (D.state device.old).sent }
+    ensures written { IsTrue (T.both twin.old).told → IsTrue (D.state device.old).told → BackupWrites (update_errand work.now) (T.both twin.old) (D.state device.old) (D.state device.new) }
     ensures failed { IsErrOf result DeviceError.Failed → RoseOnOne (T.both twin.old) (T.both twin.new) ⊎ Rose (D.state device.old).disk_faults (D.state device.new).disk_faults }
     ensures fine { (IsErrOf result DeviceError.Failed → ⊥) → NoneRose (T.both twin.old) (T.both twin.new) × SameFaults (D.state device.old) (D.state device.new) }
     ensures frame { FrameBoth (T.both twin.old) (T.both twin.new) }
@@ -126,6 +127,7 @@ fn answer_for<T: Twin, D: Device>(
     ensures is { IfOk result (λ x. IsTrue (T.both twin.old).told → IsTrue (D.state device.old).told → IsBackup (update_errand work.now) x (T.both twin.old).first.holds (T.both twin.old).second.holds (D.state device.old).holds (D.state device.new) (D.leaves device.new)) }
     ensures leaves { LeavesBackup base.now to.now (T.both twin.old) (T.both twin.new) (D.state device.old) (D.state device.new) }
     ensures sent { IsTrue (T.both twin.old).told → (T.both twin.new).sent ≡ (T.both twin.old).sent }
+    ensures written { IsTrue (T.both twin.old).told → IsTrue (D.state device.old).told → BackupWrites (update_errand work.now) (T.both twin.old) (D.state device.old) (D.state device.new) }
     ensures failed { IsErrOf result DeviceError.Failed → RoseOnOne (T.both twin.old) (T.both twin.new) ⊎ Rose (D.state device.old).disk_faults (D.state device.new).disk_faults }
     ensures fine { (IsErrOf result DeviceError.Failed → ⊥) → NoneRose (T.both twin.old) (T.both twin.new) × SameFaults (D.state device.old) (D.state device.new) }
 {

@@ -5,7 +5,7 @@ ghost use Rattle.kdcfile_double.specs.{MakingLaws.{RestsBoth}, Mended.{BothRest}
 ghost use Rattle.kdcfile_carry.specs.{Doing.{AreEither, RoseOnOne}, Files.{AreFiles, Files}, Leaving.{StaysWithin}, Promise.{lost_of}, Ways.{IsTaken, files_after}};
 ghost use Rattle.kdcfile_carry.specs.declared.losing.Losses.TheVariants as losses;
 ghost use Rattle.call_parts.specs.{Asking.{update_errand}, LeavingTwo.{FrameTwin, MayAttachTwo}};
-ghost use Rattle.carry_cli.specs.{Carrying.{NoneIsMissing, generation_of}, Doing.{IsNow, hindered_by, hindrance_of, judged_as}, Promise.{EndsOver}};
+ghost use Rattle.carry_cli.specs.{Carrying.{NoneIsMissing, generation_of}, Doing.{IsNow, hindered_by, hindrance_of, judged_as}, Promise.{EndsOver}, Writing.{CarryWrites}};
 
 use crate::answer::{Answer, Hindrance};
 use crate::words::Options;
@@ -120,6 +120,7 @@ fn carry_over<T: Twin>(
     ensures is_now { IfOk result (λ x. IsTrue (T.both twin.old).told → NoneIsMissing options (T.both twin.old).first.holds (T.both twin.old).second.holds → IsNow (update_errand work.now) options x (T.both twin.old) (T.both twin.new) (T.leaves twin.old) (T.leaves twin.new)) }
     ensures any_moment { IsTrue (T.both twin.old).told → BothRest (T.both twin.old) (T.leaves twin.old) → (f : Files) → AreFiles f (T.both twin.old).first.holds (T.both twin.old).second.holds → StaysWithin (AreEither f (files_after (generation_of (update_errand work.now)) work.now.fingerprint f)) (T.both twin.old) (T.both twin.new) (T.leaves twin.old) (T.leaves twin.new) }
     ensures still { IsTrue (T.both twin.old).told → ((f : Files) → AreFiles f (T.both twin.old).first.holds (T.both twin.old).second.holds → IsTaken (generation_of (update_errand work.now)) work.now.fingerprint f → ⊥) → RestsBoth (T.both twin.old) (T.both twin.new) (T.leaves twin.old) (T.leaves twin.new) }
+    ensures written { IsTrue (T.both twin.old).told → CarryWrites (update_errand work.now) options (T.both twin.old) (T.both twin.new) }
     ensures failed { IsErrOf result DeviceError.Failed → RoseOnOne (T.both twin.old) (T.both twin.new) }
     ensures frame { FrameBoth (T.both twin.old) (T.both twin.new) }
 {
@@ -144,6 +145,7 @@ fn answer_over<T: Twin>(
     ensures any_moment { IsTrue (T.both twin.old).told → BothRest (T.both twin.old) (T.leaves twin.old) → (f : Files) → AreFiles f (T.both twin.old).first.holds (T.both twin.old).second.holds → StaysWithin (AreEither f (files_after (generation_of (update_errand work.now)) work.now.fingerprint f)) (T.both twin.old) (T.both twin.new) (T.leaves twin.old) (T.leaves twin.new) }
     ensures still { IsTrue (T.both twin.old).told → ((f : Files) → AreFiles f (T.both twin.old).first.holds (T.both twin.old).second.holds → IsTaken (generation_of (update_errand work.now)) work.now.fingerprint f → ⊥) → RestsBoth (T.both twin.old) (T.both twin.new) (T.leaves twin.old) (T.leaves twin.new) }
     ensures tried { IsTrue (T.both twin.old).told → options.only_tries ≡ true → RestsBoth (T.both twin.old) (T.both twin.new) (T.leaves twin.old) (T.leaves twin.new) }
+    ensures written { IsTrue (T.both twin.old).told → CarryWrites (update_errand work.now) options (T.both twin.old) (T.both twin.new) }
     ensures failed { IsErrOf result DeviceError.Failed → RoseOnOne (T.both twin.old) (T.both twin.new) }
     ensures frame { FrameBoth (T.both twin.old) (T.both twin.new) }
 {
@@ -166,6 +168,7 @@ fn answer_for<T: Twin>(
     ensures any_moment { IsTrue (T.both twin.old).told → BothRest (T.both twin.old) (T.leaves twin.old) → (f : Files) → AreFiles f (T.both twin.old).first.holds (T.both twin.old).second.holds → StaysWithin (AreEither f (files_after (generation_of (update_errand work.now)) work.now.fingerprint f)) (T.both twin.old) (T.both twin.new) (T.leaves twin.old) (T.leaves twin.new) }
     ensures still { IsTrue (T.both twin.old).told → ((f : Files) → AreFiles f (T.both twin.old).first.holds (T.both twin.old).second.holds → IsTaken (generation_of (update_errand work.now)) work.now.fingerprint f → ⊥) → RestsBoth (T.both twin.old) (T.both twin.new) (T.leaves twin.old) (T.leaves twin.new) }
     ensures tried { IsTrue (T.both twin.old).told → options.only_tries ≡ true → RestsBoth (T.both twin.old) (T.both twin.new) (T.leaves twin.old) (T.leaves twin.new) }
+    ensures written { IsTrue (T.both twin.old).told → CarryWrites (update_errand work.now) options (T.both twin.old) (T.both twin.new) }
     ensures failed { IsErrOf result DeviceError.Failed → RoseOnOne (T.both twin.old) (T.both twin.new) }
     ensures names { IsTrue (T.both twin.old).told → MayAttachTwo base.now (T.both twin.old) (T.both twin.new) }
     ensures sent { IsTrue (T.both twin.old).told → (T.both twin.new).sent ≡ (T.both twin.old).sent }

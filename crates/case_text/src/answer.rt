@@ -2,11 +2,11 @@
 
 use crate::escapes::unescape;
 use crate::failing::Try;
-use crate::files::Files;
+use crate::files::{Files, Which};
 use crate::line::Said;
 use crate::wrong::Wrong;
 use kd_base::{Bytes, OutOfMemory};
-use kd_device::{Half, MemTwin};
+use kd_device::{Half, MemDevice, MemTwin};
 use std::alloc::Global;
 
 /// What a call answered and sent, and the files that were left.
@@ -20,6 +20,7 @@ pub struct Answer {
     files: Files,
     first_same: bool,
     second_same: bool,
+    backup_same: bool,
 }
 
 impl Drop for Answer {
@@ -32,6 +33,7 @@ impl Drop for Answer {
             files,
             first_same,
             second_same,
+            backup_same,
         } = self;
         let _ = at;
         let _ = status;
@@ -40,6 +42,7 @@ impl Drop for Answer {
         let _ = files;
         let _ = first_same;
         let _ = second_same;
+        let _ = backup_same;
     }
 }
 
@@ -77,15 +80,22 @@ impl Answer {
             files: Files::empty(alloc),
             first_same: false,
             second_same: false,
+            backup_same: false,
         }
     }
 
     /// Takes what the call over the files `before` sent and left.
-    pub fn take(&mut self, before: &Files, twin: &MemTwin) -> Result<(), OutOfMemory> {
+    pub fn take(
+        &mut self,
+        before: &Files,
+        twin: &MemTwin,
+        backup: &MemDevice,
+    ) -> Result<(), OutOfMemory> {
         append_lines(&mut self.sent, twin.sent())?;
-        self.files.take_from(twin)?;
-        self.first_same = before.file(Half::First).as_slice() == twin.holds(Half::First);
-        self.second_same = before.file(Half::Second).as_slice() == twin.holds(Half::Second);
+        self.files.take_from(twin, backup)?;
+        self.first_same = before.file(Which::First).as_slice() == twin.holds(Half::First);
+        self.second_same = before.file(Which::Second).as_slice() == twin.holds(Half::Second);
+        self.backup_same = before.file(Which::Backup).as_slice() == backup.holds();
         Ok(())
     }
 
@@ -125,12 +135,12 @@ impl Answer {
     fn judge_bytes(
         &self,
         alloc: Global,
-        half: Half,
+        which: Which,
         at: u64,
         wanted: &str,
         wrong: &mut Wrong,
     ) -> Result<(), OutOfMemory> {
-        let there = self.files.file(half).get(at as usize..).unwrap_or(&[]);
+        let there = self.files.file(which).get(at as usize..).unwrap_or(&[]);
         let mut bytes = Bytes::new(alloc);
         match unescape(alloc, wanted, 0, &mut bytes) {
             Ok(true) if there.starts_with(bytes.as_slice()) => Ok(()),
@@ -140,10 +150,11 @@ impl Answer {
         }
     }
 
-    fn is_same(&self, half: Half) -> bool {
-        match half {
-            Half::First => self.first_same,
-            Half::Second => self.second_same,
+    fn is_same(&self, which: Which) -> bool {
+        match which {
+            Which::First => self.first_same,
+            Which::Second => self.second_same,
+            Which::Backup => self.backup_same,
         }
     }
 
@@ -165,11 +176,11 @@ impl Answer {
         match said {
             Said::Status(wanted) => self.judge_number(self.status as u64, wanted as u64, wrong),
             Said::Sent(wanted) => self.judge_sent(wanted, wrong),
-            Said::Length(half, wanted) => {
-                self.judge_number(self.files.file(half).len() as u64, wanted, wrong)
+            Said::Length(which, wanted) => {
+                self.judge_number(self.files.file(which).len() as u64, wanted, wrong)
             }
-            Said::Holds(half, at, wanted) => self.judge_bytes(alloc, half, at, wanted, wrong),
-            Said::Same(half) if self.is_same(half) => Ok(()),
+            Said::Holds(which, at, wanted) => self.judge_bytes(alloc, which, at, wanted, wrong),
+            Said::Same(which) if self.is_same(which) => Ok(()),
             Said::Same(_) => wrong.say_at("the KDCFILE has changed", self.at),
         }
     }

@@ -1,22 +1,36 @@
 //! What fails in a call, and the tries of it.
 
+use crate::files::Which;
 use kd_base::OutOfMemory;
 use kd_device::{CallKind, Half};
 use std::alloc::Global;
 
-/// What can be told to fail: a read of a text, or a call of the twin. The half beside an emit is the first.
+/// What can be told to fail: a read of a text, or a call of the twin or of the device that a backup is written to. The half
+/// beside an emit is the first.
 #[derive(Clone, Copy)]
 pub enum Failing {
     Text,
     Twin(Half, CallKind),
+    Backup(CallKind),
+}
+
+fn kind_name(kind: CallKind) -> &'static str {
+    match kind {
+        CallKind::Attach => "attach",
+        CallKind::Size => "size",
+        CallKind::Read => "read",
+        CallKind::Write => "write",
+        CallKind::Sync => "sync",
+        CallKind::Emit => "emit",
+    }
 }
 
 impl Failing {
-    /// That of this name, in lines about this half.
-    pub fn of(half: Half, word: &str) -> Option<Failing> {
+    /// That of this name, in lines about this file.
+    pub fn of(which: Which, word: &str) -> Option<Failing> {
         let kind = match word {
-            "text" if half == Half::First => return Some(Failing::Text),
-            "emit" if half == Half::First => CallKind::Emit,
+            "text" if which == Which::First => return Some(Failing::Text),
+            "emit" if which == Which::First => CallKind::Emit,
             "attach" => CallKind::Attach,
             "size" => CallKind::Size,
             "read" => CallKind::Read,
@@ -24,25 +38,26 @@ impl Failing {
             "sync" => CallKind::Sync,
             _ => return None,
         };
-        Some(Failing::Twin(half, kind))
+        match which {
+            Which::First => Some(Failing::Twin(Half::First, kind)),
+            Which::Second => Some(Failing::Twin(Half::Second, kind)),
+            Which::Backup => Some(Failing::Backup(kind)),
+        }
     }
 
     fn name(self) -> &'static str {
         match self {
             Failing::Text => "text",
-            Failing::Twin(_, CallKind::Attach) => "attach",
-            Failing::Twin(_, CallKind::Size) => "size",
-            Failing::Twin(_, CallKind::Read) => "read",
-            Failing::Twin(_, CallKind::Write) => "write",
-            Failing::Twin(_, CallKind::Sync) => "sync",
-            Failing::Twin(_, CallKind::Emit) => "emit",
+            Failing::Twin(_, kind) => kind_name(kind),
+            Failing::Backup(kind) => kind_name(kind),
         }
     }
 
     // What stands before the name.
-    fn half_name(self) -> &'static str {
+    fn file_name(self) -> &'static str {
         match self {
             Failing::Twin(Half::Second, _) => "second ",
+            Failing::Backup(_) => "backup ",
             _ => "",
         }
     }
@@ -52,6 +67,7 @@ impl Failing {
 #[derive(Drop)]
 pub struct Failures {
     pub twin: Vec<(Half, CallKind, u64)>,
+    pub backup: Vec<(Half, CallKind, u64)>,
     /// The numbers of the reads.
     pub texts: Vec<u64>,
 }
@@ -60,6 +76,7 @@ impl Failures {
     pub fn none(alloc: Global) -> Failures {
         Failures {
             twin: Vec::new(alloc),
+            backup: Vec::new(alloc),
             texts: Vec::new(alloc),
         }
     }
@@ -69,6 +86,7 @@ impl Failures {
         match failing {
             Failing::Text => self.texts.push(number)?,
             Failing::Twin(half, kind) => self.twin.push((half, kind, number))?,
+            Failing::Backup(kind) => self.backup.push((Half::First, kind, number))?,
         }
         Ok(())
     }
@@ -78,11 +96,13 @@ impl Failures {
         match failing {
             Failing::Text => self.texts.pop().is_some(),
             Failing::Twin(_, _) => self.twin.pop().is_some(),
+            Failing::Backup(_) => self.backup.pop().is_some(),
         };
     }
 
     pub fn clear(&mut self) {
         self.twin.clear();
+        self.backup.clear();
         self.texts.clear();
     }
 }
@@ -98,6 +118,8 @@ pub enum Tries {
     Stop(u64, u64),
     /// The same after each of these counts of calls, with each of the choices.
     Stops(u64, u64),
+    /// Over what a stop after so many calls on the file of a backup, with this choice, leaves of it.
+    BackupStop(u64, u64),
     /// Over what each try of the last call left.
     Again,
 }
@@ -121,7 +143,7 @@ impl Try {
                 write!(
                     text,
                     ", at {}{} {number}",
-                    failing.half_name(),
+                    failing.file_name(),
                     failing.name()
                 )?
             }

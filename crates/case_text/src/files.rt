@@ -1,14 +1,23 @@
 //! The files that a call is made over.
 
 use kd_base::{Bytes, OutOfMemory};
-use kd_device::{CallKind, Half, MemTwin};
+use kd_device::{CallKind, Half, MemDevice, MemTwin};
 use std::alloc::Global;
 
-/// The KDCFILE, and the second copy that a definition may ask for.
+/// One of the files.
+#[derive(Clone, Copy, PartialEq, Eq)]
+pub enum Which {
+    First,
+    Second,
+    Backup,
+}
+
+/// The KDCFILE, the second copy that a definition may ask for, and the file that they are backed up to.
 #[derive(Drop)]
 pub struct Files {
     first: Vec<u8>,
     second: Vec<u8>,
+    backup: Vec<u8>,
 }
 
 impl Files {
@@ -16,23 +25,37 @@ impl Files {
         Files {
             first: Vec::new(alloc),
             second: Vec::new(alloc),
+            backup: Vec::new(alloc),
         }
     }
 
-    /// They are those that a twin has.
-    pub fn take_from(&mut self, twin: &MemTwin) -> Result<(), OutOfMemory> {
-        self.take(twin.holds(Half::First), twin.holds(Half::Second))
+    /// They are those that a twin and a device have.
+    pub fn take_from(&mut self, twin: &MemTwin, backup: &MemDevice) -> Result<(), OutOfMemory> {
+        self.take(
+            twin.holds(Half::First),
+            twin.holds(Half::Second),
+            backup.holds(),
+        )
     }
 
     /// They are as these.
     pub fn copy(&mut self, files: &Files) -> Result<(), OutOfMemory> {
-        self.take(&files.first, &files.second)
+        self.take(&files.first, &files.second, &files.backup)
     }
 
-    fn take(&mut self, first: &[u8], second: &[u8]) -> Result<(), OutOfMemory> {
+    fn take(&mut self, first: &[u8], second: &[u8], backup: &[u8]) -> Result<(), OutOfMemory> {
         self.clear();
         self.first.extend_from_slice(first)?;
         self.second.extend_from_slice(second)?;
+        self.backup.extend_from_slice(backup)?;
+        Ok(())
+    }
+
+    /// The backup is put back: it is the KDCFILE, and the second copy is empty.
+    pub fn restore(&mut self) -> Result<(), OutOfMemory> {
+        self.first.clear();
+        self.second.clear();
+        self.first.extend_from_slice(&self.backup)?;
         Ok(())
     }
 
@@ -47,22 +70,35 @@ impl Files {
         MemTwin::new(alloc, first, second, failing.clone()?)
     }
 
-    pub fn file(&self, half: Half) -> &Vec<u8> {
-        match half {
-            Half::First => &self.first,
-            Half::Second => &self.second,
+    /// A device with the file of a backup, of which these calls fail.
+    pub fn device(
+        &self,
+        alloc: Global,
+        failing: &Vec<(Half, CallKind, u64)>,
+    ) -> Result<MemDevice, OutOfMemory> {
+        let backup = Bytes::from_slice(alloc, &self.backup)?;
+        MemDevice::new(alloc, backup, failing.clone()?)
+    }
+
+    pub fn file(&self, which: Which) -> &Vec<u8> {
+        match which {
+            Which::First => &self.first,
+            Which::Second => &self.second,
+            Which::Backup => &self.backup,
         }
     }
 
-    pub fn file_mut(&mut self, half: Half) -> &mut Vec<u8> {
-        match half {
-            Half::First => &mut self.first,
-            Half::Second => &mut self.second,
+    pub fn file_mut(&mut self, which: Which) -> &mut Vec<u8> {
+        match which {
+            Which::First => &mut self.first,
+            Which::Second => &mut self.second,
+            Which::Backup => &mut self.backup,
         }
     }
 
     pub fn clear(&mut self) {
         self.first.clear();
         self.second.clear();
+        self.backup.clear();
     }
 }

@@ -1,7 +1,7 @@
 //! The words of a line, and what a line says that a call did.
 
 use crate::failing::Failing;
-use kd_device::Half;
+use crate::files::Which;
 
 /// What a line says that the last call did.
 #[derive(Clone, Copy)]
@@ -11,11 +11,11 @@ pub enum Said<'a> {
     /// The next line that it sent.
     Sent(&'a str),
     /// The length of the file that it left.
-    Length(Half, u64),
+    Length(Which, u64),
     /// The file that it left has these bytes there.
-    Holds(Half, u64, &'a str),
+    Holds(Which, u64, &'a str),
     /// It left the file as it was.
-    Same(Half),
+    Same(Which),
 }
 
 /// The first word of a text, and what comes behind the blank after it.
@@ -38,7 +38,7 @@ pub fn numbers(rest: &str) -> Option<(u64, u64)> {
 }
 
 /// What fails, by its name, and the text behind it.
-pub fn failing_and_text(half: Half, rest: &str) -> Option<(Failing, &str)> {
+pub fn failing_and_text(which: Which, rest: &str) -> Option<(Failing, &str)> {
     let (kind, text) = rest.split_once(' ')?;
-    Some((Failing::of(half, kind)?, text))
+    Some((Failing::of(which, kind)?, text))
 }

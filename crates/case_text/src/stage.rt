@@ -3,13 +3,13 @@
 use crate::answer::Answer;
 use crate::escapes::unescape;
 use crate::failing::{Failing, Failures, Tries, Try};
-use crate::files::Files;
+use crate::files::{Files, Which};
 use crate::line::{Said, failing_and_text, number, number_and_text, numbers, split};
 use crate::program::Program;
 use crate::texts::{Texts, append_words};
 use crate::wrong::Wrong;
 use kd_base::{Bytes, OutOfMemory};
-use kd_device::{Half, MemRoom, MemTwin};
+use kd_device::{MemDevice, MemRoom, MemTwin};
 use std::alloc::Global;
 use std::mem;
 
@@ -37,6 +37,8 @@ pub struct Stage {
     unsaid: bool,
     /// The twin of the last plain call.
     twin: Option<MemTwin>,
+    /// And its device for a backup.
+    backup: Option<MemDevice>,
     /// What is wrong with the last line.
     wrong: Wrong,
     cases: u64,
@@ -55,6 +57,7 @@ impl Drop for Stage {
             left,
             unsaid,
             twin,
+            backup,
             wrong,
             cases,
             calls,
@@ -68,6 +71,7 @@ impl Drop for Stage {
         let _ = left;
         let _ = unsaid;
         let _ = twin;
+        let _ = backup;
         let _ = wrong;
         let _ = cases;
         let _ = calls;
@@ -99,6 +103,7 @@ impl Stage {
             left: Vec::new(alloc),
             unsaid: false,
             twin: None,
+            backup: None,
             wrong: Wrong::nothing(alloc),
             cases: 0,
             calls: 0,
@@ -128,7 +133,9 @@ impl Stage {
             "" | "*" => Some(Ok(())),
             "case" => Some(self.begin_case()),
             "call" => Some(self.call::<P>(alloc, rest)),
+            "restore" if rest.is_empty() => Some(self.files.restore()),
             "second" => self.obey_second(alloc, rest),
+            "backup" => self.obey_backup(alloc, rest),
             _ => self.obey_any(alloc, word, rest),
         };
         match done {
@@ -140,7 +147,17 @@ impl Stage {
     // Does what a line behind the word `second` says. None where it is no such line, here as below.
     fn obey_second(&mut self, alloc: Global, text: &str) -> Option<Done> {
         let (word, rest) = split(text);
-        self.obey_half(alloc, Half::Second, word, rest)
+        self.obey_half(alloc, Which::Second, word, rest)
+    }
+
+    // Does what a line behind the word `backup` says.
+    fn obey_backup(&mut self, alloc: Global, text: &str) -> Option<Done> {
+        let (word, rest) = split(text);
+        if word == "stop" {
+            let (call, choice) = numbers(rest)?;
+            return Some(self.try_with(Tries::BackupStop(call, choice)));
+        }
+        self.obey_half(alloc, Which::Backup, word, rest)
     }
 
     fn obey_any(&mut self, alloc: Global, word: &str, rest: &str) -> Option<Done> {
@@ -150,7 +167,7 @@ impl Stage {
         if let Some(done) = self.obey_call(alloc, word, rest) {
             return Some(done);
         }
-        self.obey_half(alloc, Half::First, word, rest)
+        self.obey_half(alloc, Which::First, word, rest)
     }
 
     // Does what a line about texts says.
@@ -214,30 +231,30 @@ impl Stage {
         }
     }
 
-    // Does what a line about the file of this half, or about its calls, says.
-    fn obey_half(&mut self, alloc: Global, half: Half, word: &str, rest: &str) -> Option<Done> {
+    // Does what a line about this file, or about the calls on it, says.
+    fn obey_half(&mut self, alloc: Global, which: Which, word: &str, rest: &str) -> Option<Done> {
         match word {
             "empty" if rest.is_empty() => {
-                self.files.file_mut(half).clear();
+                self.files.file_mut(which).clear();
                 Some(Ok(()))
             }
-            "same" if rest.is_empty() => Some(self.judge(alloc, Said::Same(half))),
-            "cut" => Some(self.cut(half, number(rest)?)),
-            "length" => Some(self.judge(alloc, Said::Length(half, number(rest)?))),
+            "same" if rest.is_empty() => Some(self.judge(alloc, Said::Same(which))),
+            "cut" => Some(self.cut(which, number(rest)?)),
+            "length" => Some(self.judge(alloc, Said::Length(which, number(rest)?))),
             "put" => {
                 let (at, bytes) = number_and_text(rest)?;
-                Some(self.put(alloc, half, at, bytes))
+                Some(self.put(alloc, which, at, bytes))
             }
             "holds" => {
                 let (at, bytes) = number_and_text(rest)?;
-                Some(self.judge(alloc, Said::Holds(half, at, bytes)))
+                Some(self.judge(alloc, Said::Holds(which, at, bytes)))
             }
-            _ => self.obey_failing(half, word, rest),
+            _ => self.obey_failing(which, word, rest),
         }
     }
 
-    fn obey_failing(&mut self, half: Half, word: &str, rest: &str) -> Option<Done> {
-        let (failing, rest) = failing_and_text(half, rest)?;
+    fn obey_failing(&mut self, which: Which, word: &str, rest: &str) -> Option<Done> {
+        let (failing, rest) = failing_and_text(which, rest)?;
         match word {
             "fail" => Some(self.failures.push(failing, number(rest)?)),
             "fails" => {
@@ -256,6 +273,7 @@ impl Stage {
         self.tries = Tries::Plain;
         self.files.clear();
         self.twin = None;
+        self.backup = None;
         Ok(())
     }
 
@@ -297,17 +315,17 @@ impl Stage {
             .unless(first, "the next call is tried otherwise already")
     }
 
-    fn put(&mut self, alloc: Global, half: Half, at: u64, text: &str) -> Done {
+    fn put(&mut self, alloc: Global, which: Which, at: u64, text: &str) -> Done {
         let mut bytes = Bytes::new(alloc);
         if !unescape(alloc, text, 0, &mut bytes)? {
             return self.wrong.say("no such bytes");
         }
-        let fits = put_bytes(self.files.file_mut(half), at, bytes.as_slice());
+        let fits = put_bytes(self.files.file_mut(which), at, bytes.as_slice());
         self.wrong.unless(fits, "past the end of the KDCFILE")
     }
 
-    fn cut(&mut self, half: Half, length: u64) -> Done {
-        let file = self.files.file_mut(half);
+    fn cut(&mut self, which: Which, length: u64) -> Done {
+        let file = self.files.file_mut(which);
         let fits = length <= file.len() as u64;
         file.truncate(length as usize);
         self.wrong.unless(fits, "past the end of the KDCFILE")
@@ -333,29 +351,36 @@ impl Stage {
             Tries::Fails(kind, from, to) => self.call_failing::<P>(alloc, kind, from, to),
             Tries::Stop(stop, choice) => self.call_after_one::<P>(alloc, stop, choice),
             Tries::Stops(from, to) => self.call_after_each::<P>(alloc, from, to),
+            Tries::BackupStop(stop, choice) => self.call_after_backup::<P>(alloc, stop, choice),
             Tries::Again => self.call_again::<P>(alloc),
         }
     }
 
-    // The status of the call over this twin.
-    fn status_of<P: Program>(&self, alloc: Global, twin: &mut MemTwin) -> Result<u8, OutOfMemory> {
+    // The status of the call over this twin and this device.
+    fn status_of<P: Program>(
+        &self,
+        alloc: Global,
+        twin: &mut MemTwin,
+        backup: &mut MemDevice,
+    ) -> Result<u8, OutOfMemory> {
         let mut texts = Vec::new(alloc);
         self.texts.append_own(alloc, &mut texts)?;
         let mut room = MemRoom::new(alloc, texts, self.failures.texts.clone()?)?;
-        Ok(P::call(alloc, &self.words, &mut room, twin))
+        Ok(P::call(alloc, &self.words, &mut room, twin, backup))
     }
 
-    // What the call over this twin, which has these files, does.
+    // What the call over this twin and this device, which have these files, does.
     fn answer_of<P: Program>(
         &self,
         alloc: Global,
         files: &Files,
         twin: &mut MemTwin,
+        backup: &mut MemDevice,
         at: Try,
     ) -> Result<Answer, OutOfMemory> {
-        let status = self.status_of::<P>(alloc, twin)?;
+        let status = self.status_of::<P>(alloc, twin, backup)?;
         let mut answer = Answer::new(alloc, at, status);
-        answer.take(files, twin)?;
+        answer.take(files, twin, backup)?;
         Ok(answer)
     }
 
@@ -367,19 +392,27 @@ impl Stage {
         at: Try,
     ) -> Result<Answer, OutOfMemory> {
         let mut twin = files.twin(alloc, &self.failures.twin)?;
-        self.answer_of::<P>(alloc, files, &mut twin, at)
+        let mut backup = files.device(alloc, &self.failures.backup)?;
+        self.answer_of::<P>(alloc, files, &mut twin, &mut backup, at)
     }
 
     // The call over the files of the case, which become those that it leaves.
     fn call_once<P: Program>(&mut self, alloc: Global) -> Done {
         let mut twin = self.files.twin(alloc, &self.failures.twin)?;
-        let done = self.call_over_twin::<P>(alloc, &mut twin);
+        let mut backup = self.files.device(alloc, &self.failures.backup)?;
+        let done = self.call_over_twin::<P>(alloc, &mut twin, &mut backup);
         self.twin = Some(twin);
+        self.backup = Some(backup);
         done
     }
 
-    fn call_over_twin<P: Program>(&mut self, alloc: Global, twin: &mut MemTwin) -> Done {
-        let answer = self.answer_of::<P>(alloc, &self.files, twin, Try::Plain)?;
+    fn call_over_twin<P: Program>(
+        &mut self,
+        alloc: Global,
+        twin: &mut MemTwin,
+        backup: &mut MemDevice,
+    ) -> Done {
+        let answer = self.answer_of::<P>(alloc, &self.files, twin, backup, Try::Plain)?;
         self.answers.push(answer)?;
         self.keep_files()
     }
@@ -431,7 +464,8 @@ impl Stage {
         Ok(())
     }
 
-    // Takes the files that a stop of the last plain call leaves; whether there is such a stop.
+    // Takes the files that a stop of the last plain call leaves; whether there is such a stop. That of a backup is as the
+    // call left it.
     fn stop(
         &self,
         alloc: Global,
@@ -442,11 +476,36 @@ impl Stage {
         let Some(twin) = &self.twin else {
             return Ok(false);
         };
+        let Some(backup) = &self.backup else {
+            return Ok(false);
+        };
         if stop > twin.calls() {
             return Ok(false);
         }
         let stopped = twin.after_stop(alloc, stop, choice)?;
-        files.take_from(&stopped)?;
+        files.take_from(&stopped, backup)?;
+        Ok(true)
+    }
+
+    // The same for a stop after so many calls on the file of a backup. The others are as the call left them.
+    fn stop_backup(
+        &self,
+        alloc: Global,
+        stop: u64,
+        choice: u64,
+        files: &mut Files,
+    ) -> Result<bool, OutOfMemory> {
+        let Some(twin) = &self.twin else {
+            return Ok(false);
+        };
+        let Some(backup) = &self.backup else {
+            return Ok(false);
+        };
+        if stop > backup.calls() {
+            return Ok(false);
+        }
+        let stopped = backup.after_stop(alloc, stop, choice)?;
+        files.take_from(twin, &stopped)?;
         Ok(true)
     }
 
@@ -482,6 +541,17 @@ impl Stage {
             self.keep_files()?;
         }
         Ok(())
+    }
+
+    // The call over what a stop of the last plain call leaves of the file of a backup. The files become those that it leaves.
+    fn call_after_backup<P: Program>(&mut self, alloc: Global, stop: u64, choice: u64) -> Done {
+        let mut files = Files::empty(alloc);
+        if !self.stop_backup(alloc, stop, choice, &mut files)? {
+            return self.wrong.say("there is no such stop");
+        }
+        let answer = self.answer_over::<P>(alloc, &files, Try::Stop(stop, choice))?;
+        self.answers.push(answer)?;
+        self.keep_files()
     }
 
     // The call over what each of these stops leaves. The files stay.

@@ -5,9 +5,9 @@
 //! that the gate fails where a line is not met. The last text is wrong on purpose: a wrong line is seen.
 #![tactic(auto)]
 
-use carry_cli::{There, carry};
+use carry_cli::{There, backup, backup_of, carry};
 use case_text::{Cases, Program};
-use kd_device::{MemRoom, MemTwin};
+use kd_device::{MemDevice, MemRoom, MemTwin};
 use std::alloc::{AllocError, Global};
 use std::{env, fs};
 use utm_cli::utm_twin;
@@ -27,22 +27,48 @@ fn behind(alloc: Global, words: &[String]) -> Result<Vec<String>, AllocError> {
     Ok(rest)
 }
 
-fn call_carry(alloc: Global, words: &[String], room: &mut MemRoom, twin: &mut MemTwin) -> u8 {
+// A call of `carry`, or one that backs up to the device.
+fn carry_or_back_up(
+    alloc: Global,
+    words: &Vec<String>,
+    room: &mut MemRoom,
+    twin: &mut MemTwin,
+    to: &mut MemDevice,
+) -> u8 {
     let there = There {
         first: true,
         second: true,
     };
+    match backup_of(words) {
+        Some(_) => backup(alloc, words, room, twin, to).code,
+        None => carry(alloc, words, room, twin, there).code,
+    }
+}
+
+fn call_carry(
+    alloc: Global,
+    words: &[String],
+    room: &mut MemRoom,
+    twin: &mut MemTwin,
+    to: &mut MemDevice,
+) -> u8 {
     match behind(alloc, words) {
-        Ok(words) => carry(alloc, &words, room, twin, there).code,
+        Ok(words) => carry_or_back_up(alloc, &words, room, twin, to),
         Err(_) => OUT_OF_MEMORY,
     }
 }
 
 impl Program for Utm {
-    fn call(alloc: Global, words: &Vec<String>, room: &mut MemRoom, twin: &mut MemTwin) -> u8 {
+    fn call(
+        alloc: Global,
+        words: &Vec<String>,
+        room: &mut MemRoom,
+        twin: &mut MemTwin,
+        backup: &mut MemDevice,
+    ) -> u8 {
         match words.first() {
             Some(word) if word.as_bytes() == b"carry".as_slice() => {
-                call_carry(alloc, words, room, twin)
+                call_carry(alloc, words, room, twin, backup)
             }
             _ => utm_twin(alloc, words, room, twin).code,
         }
