@@ -10,7 +10,6 @@ use Rattle.kd_records.specs.declared.key.RecordKey.{RecordKey}
 use Rattle.kd_device.specs.Device.{written}
 use Rattle.kdcfile_layout.specs.Layout.{first_of_pages, chain_parts, chain_head, StandsAt, Part, PartStands, page_place, zeros}
 use Rattle.kdcfile_layout.specs.WrittenLaws.{written_stands, below_write, above_write}
-use Rattle.kdcfile_layout.specs.declared.page.PageWrite.{PageWrite}
 use Rattle.kdcfile_layout.specs.Writes.{written_all}
 use Rattle.kdcfile_layout.specs.Places.{At, IsDistinct}
 use Rattle.kdcfile_layout.specs.PlacesLaws.{distinct_tail, distinct_head}

@@ -1,24 +1,20 @@
 -- Chains that are read slot by slot, and chains that stand in a file.
-use Rattle.std.proofs.Common.{◌≡◌, ℕ, zero, suc, ◌+◌, ◌<◌, ◌≤◌, min, Bool, ltb, leb, cond, ⊎_elim, List, [], ◌∷◌, ◌++◌, length, take, drop, Option, Some, None, refl, ap, sym, subst, ◌∙◌, arith}
-use Rattle.std.proofs.Common.{append_assoc, append-nil, length-take}
+use Rattle.std.proofs.Common.{◌≡◌, ℕ, zero, suc, ◌+◌, ◌<◌, ◌≤◌, ltb, leb, List, [], ◌∷◌, ◌++◌, length, Option, Some, None, refl, ap, sym, subst, ◌∙◌, arith}
+use Rattle.std.proofs.Common.{append_assoc, append-nil}
 use Rattle.std.specs.Prelude.{map, All}
-use Rattle.std.specs.Int.{w32, from_be_bytes}
 use Rattle.std.specs.Option.{option_map, option_and_then}
-use Rattle.std.proofs.lemmas.Bool.{lt-ltb, le-ltb, le-leb, cases_lt, cond-true}
+use Rattle.std.proofs.lemmas.Bool.{lt-ltb, le-leb, cond-true}
 use Rattle.std.proofs.lemmas.Option.{none-some, same_Some}
-use Rattle.std.proofs.lemmas.List.{take-take, drop-take}
 use Rattle.std.proofs.lemmas.List.Elements.{All-head, All-tail}
 use Rattle.std.proofs.lemmas.List.Sums.{sum_by-cons}
 use Rattle.kd_base.specs.ToolsLaws.{map_some, and_some}
 use Rattle.kd_records.specs.Contents.{Record}
 use Rattle.kd_records.specs.Charge.{IsBlockSize, charge_of}
-use Rattle.kd_records.specs.ChargeLaws.{block_from}
 use Rattle.kdcfile_layout.specs.Places.{At}
 use Rattle.kdcfile_layout.specs.PlacesLaws.{no_item}
 use Rattle.kdcfile_layout.specs.TestsLaws.{when}
-use Rattle.kdcfile_layout.specs.Fields.{number}
 use Rattle.kdcfile_layout.specs.declared.chain.Chain.{Chain}
-use Rattle.kdcfile_layout.specs.Layout.{page_place, first_of_pages, if_used, chain_pages}
+use Rattle.kdcfile_layout.specs.Layout.{first_of_pages, if_used, chain_pages}
 use Rattle.kdcfile_layout.specs.declared.kdcfile_read.slot.First.{First}
 use Rattle.kdcfile_layout.specs.Slots.{first_in}
 use Rattle.kdcfile_layout.specs.Reading.{whole_of}

@@ -1,6 +1,6 @@
 -- Typed lines over the two files of a BASE, from what they did.
 use Rattle.std.proofs.Common.{◌≡◌, ◌⊎◌, ◌∙◌, ◌∷◌, inl, inr, ⊎_elim, refl, ℕ, Bool, List, [], Ok, Err, ap, subst, sym, arith}
-use Rattle.std.specs.Prelude.{IsErrOf, IsTrue, OnOk}
+use Rattle.std.specs.Prelude.{IsTrue, OnOk}
 use Rattle.kd_base.specs.ToolsLaws.{err_is}
 use Rattle.kd_device.specs.Device.{Rose}
 use Rattle.kd_device.specs.Twin.{Both}

@@ -42,7 +42,7 @@ use Rattle.live_run.specs.Typing.{SameTyping, TypingState}
 use Rattle.live_run.specs.declared.error.LiveError.{LiveError}
 use Rattle.live_run.specs.declared.error.LiveError.TheVariants as live
 use Rattle.live_cli.specs.Causes.{of_live, of_opening}
-use Rattle.live_cli.specs.EndsTwo.{BeginsTwo, DoesLiveTwo, RefusesTwoLive}
+use Rattle.live_cli.specs.EndsTwo.{DoesLiveTwo, RefusesTwoLive}
 use Rattle.live_cli.specs.Living.{acts_lived, begun}
 use Rattle.live_cli.specs.LivingTwo.{IsSparedSince, LivedTwice, LivedWholeTwo, MayLoseSince, ReadInTurnTwo, acts_since, tables_then}
 use Rattle.live_cli.specs.declared.error.SessionError.{SessionError}

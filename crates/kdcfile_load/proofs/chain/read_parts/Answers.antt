@@ -1,5 +1,5 @@
 use Rattle.std.proofs.Common.{◌≡◌, ◌<◌, ◌≤◌, ◌+◌, ◌-◌, ◌++◌, ◌∙◌, length, take, refl, ap, sym, arith, ℕ, List}
-use Rattle.std.specs.Prelude.{IsTrue, Option}
+use Rattle.std.specs.Prelude.{Option}
 use Rattle.std.specs.Option.{option_map}
 use Rattle.kdcfile_load.specs.Reads.{page_in}
 use Rattle.kdcfile_layout.specs.declared.kdcfile_read.part.Part.{Part}
