@@ -1,6 +1,6 @@
 """Terminals in a browser: serves a page with the terminals, the printers and the desk of an application.
 
-    python3 tools/terminals BASE [--port N] [--live PROGRAM]
+    python3 tools/terminals BASE [--alone] [--port N] [--live PROGRAM]
 
 The monitor is `./live BASE`, or another program with its lines. The page's address is printed when it can be opened.
 A ^C ends the server and the monitor. Where the monitor refuses BASE, its lines are printed, and its status is the one
@@ -47,6 +47,7 @@ def tell(text):
 def words():
     parser = Parser(prog="terminals", description="Terminals in a browser, for an application.")
     parser.add_argument("base", metavar="BASE", help="the application: BASE.def, BASE.units and BASE.KDCA")
+    parser.add_argument("--alone", action="store_true", help="one copy is gone on with where the other one is missing")
     parser.add_argument("--port", type=int, default=8066, metavar="N", help="the port; 0 stands for a free one")
     parser.add_argument("--live", type=Path, default=TOP / "live", metavar="PROGRAM", help="another monitor")
     asked = parser.parse_args()
@@ -72,7 +73,8 @@ def main():
     for it in STOPS:
         if signal.getsignal(it) != signal.SIG_IGN:
             signal.signal(it, stop)
-    session = Session(asked.base, [str(asked.live), asked.base], tell)
+    options = ["--alone"] if asked.alone else []
+    session = Session(asked.base, [str(asked.live), asked.base, *options], tell)
     try:
         with Server(asked.port, session) as server:
             return serve(session, server)
