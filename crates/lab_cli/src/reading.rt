@@ -1,5 +1,6 @@
 //! What a call starts from: an application, the tables of its KDCFILE, and its script.
-ghost use Rattle.std.specs.Prelude.{IfOk, All, IsSome};
+ghost use Rattle.std.specs.Prelude.{◌≡◌, IfOk, All, IsSome, Ok};
+ghost use Rattle.script_read.specs.Commands.{script_in};
 ghost use Rattle.abstract_monitor.specs.CommandsOf.{IsCommandOf};
 ghost use Rattle.laws_of_states.specs.Suits.{Suits};
 ghost use Rattle.lab_cli.specs.Places.{CanStart};
@@ -171,7 +172,8 @@ fn commands_of(
     application: &Application,
     script: &[u8],
 ) -> Result<Vec<Command>, TextError>
-    ensures { IfOk result (λ commands. All (IsCommandOf application.now.generation) commands.items) }
+    ensures says { IfOk result (λ commands. script_in application.now.generation script.now ≡ Ok commands.items) }
+    ensures names { IfOk result (λ commands. All (IsCommandOf application.now.generation) commands.items) }
 {
     Ok(read_script(alloc, &application.generation, script)?)
 }

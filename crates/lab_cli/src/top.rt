@@ -1,6 +1,7 @@
 //! The top call.
-ghost use Rattle.std.specs.{Prelude.{◌≡◌, ◌∷◌, [], IfOk, None, map}, String.{string_bytes}};
+ghost use Rattle.std.specs.{Prelude.{◌≡◌, ◌∷◌, [], IfOk, None, Ok, map}, String.{string_bytes}};
 ghost use Rattle.laws_of_states.specs.Keeping.{IsScriptOf};
+ghost use Rattle.script_read.specs.Commands.{script_in};
 ghost use Rattle.refusals.specs.Statuses.{IsOneOf};
 ghost use Rattle.lab_cli.specs.{Places.{CanStart}, Words.{request_of as request}};
 
@@ -8,14 +9,12 @@ use crate::checking::check;
 use crate::exploring::explore_orders;
 use crate::reading::{Place, place_of};
 use crate::stop::Stop;
-use crate::talking::talk;
-use crate::testing::test;
-use crate::tracing::trace;
 use crate::words::{Word, request_of};
 use abstract_monitor::Command;
 use application_read::Application;
 use kd_base::{Bytes, OutOfMemory};
 use kd_device::{Room, SureDevice};
+use lab_scripts::{talk, test, trace};
 use lab_turns::Bench;
 use lab_turns::lab_printing::{Console, Printer};
 use refusals::{FileRefusal, Status, refuse, refuse_file, refuse_texts};
@@ -87,7 +86,8 @@ fn do_word<C: Console>(
     commands: &[Command],
     script: &[u8],
 ) -> Result<Status, Stop>
-    requires { IsScriptOf bench.application commands.now }
+    requires names { IsScriptOf bench.application commands.now }
+    requires says { script_in bench.application.generation script.now ≡ Ok commands.now }
     ensures { IfOk result (λ status. IsOneOf (0 ∷ 1 ∷ 2 ∷ 3 ∷ []) status.code) }
 {
     match word {

@@ -47,15 +47,15 @@ impl Recorder {
     }
 
     /// The lines that it heard of.
-    pub(crate) fn into_sent(self) -> Vec<u8>
-        ensures { result.items ≡ self }
+    pub(crate) fn into_sent(self) -> Bytes
+        ensures { result ≡ self }
     {
-        self.sent.into_vec()
+        self.sent
     }
 }
 
 impl Listener for Recorder {
-    ghost use Rattle.lab_cli.specs.{Testing.{Records}, TestingLaws.{records_both, records_none}};
+    ghost use Rattle.lab_scripts.specs.{Records.{Records}, RecordsLaws.{records_both, records_none}};
 
     ghost hears = { Records };
 

@@ -1,7 +1,7 @@
 use Rattle.std.proofs.Common.{ℕ, List, ◌++◌, ap, ◌∙◌}
-use Rattle.lab_cli.proofs.Sent.{command_lines}
-use Rattle.lab_cli.specs.Testing.{heard_bytes}
-use Rattle.lab_cli.proofs.testing.sent_by.Goals as goal
+use Rattle.lab_scripts.proofs.Sent.{command_lines}
+use Rattle.lab_scripts.specs.Records.{heard_bytes}
+use Rattle.lab_scripts.proofs.testing.sent_by.Goals as goal
 
 pub returns-clause-sent : goal.returns-clause-sent
 returns-clause-sent c =

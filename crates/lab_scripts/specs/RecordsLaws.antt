@@ -4,7 +4,7 @@ use Rattle.std.proofs.Common.{refl, sym, ap, ◌∙◌, append_assoc}
 use Rattle.std.proofs.lemmas.List.{append-nil}
 use Rattle.abstract_monitor.specs.Trace.{bytes_of}
 use Rattle.lab_turns.specs.Heard.{Heard, Asked, Turned, Done, Over}
-use Rattle.lab_cli.specs.Testing.{Records, heard_bytes}
+use Rattle.lab_scripts.specs.Records.{Records, heard_bytes}
 
 pub records_none : (l : List ℕ) → Records l [] l
 records_none l = sym (append-nil l)

@@ -1,15 +1,23 @@
 -- The lines that are heard of a command are those of its acts.
 use Rattle.std.proofs.Common.{◌≡◌, ℕ, List, [], ◌∷◌, ◌++◌, refl, sym, ap, ◌∙◌}
+use Rattle.std.proofs.Common.{append_assoc}
 use Rattle.std.proofs.lemmas.List.{append-nil}
+use Rattle.kdcs_types.specs.declared.act.Act.{Act}
+use Rattle.kdcs_types.specs.declared.act.Act.TheVariants.{Commit, Emit}
 use Rattle.abstract_monitor.specs.declared.command.Command.{Command}
 use Rattle.abstract_monitor.specs.declared.command.Command.TheVariants.{Input, Tick, Run, Turn, Drop, Print, PrintLast, Restart}
 use Rattle.abstract_monitor.specs.Commands.{ScriptStep, acts_of, steps_of}
 use Rattle.abstract_monitor.specs.State.{Application, State}
 use Rattle.abstract_monitor.specs.Trace.{bytes_of}
-use Rattle.device_acts.specs.ActingLaws.{bytes_joined}
 use Rattle.lab_turns.specs.Heard.{Heard, Asked, Turned, Done, Over, AreSteps, IsEnding, TellsCommand}
-use Rattle.lab_cli.specs.Testing.{heard_bytes}
-use Rattle.lab_cli.specs.TestingLaws.{heard_bytes_both}
+use Rattle.lab_scripts.specs.Records.{heard_bytes}
+use Rattle.lab_scripts.specs.RecordsLaws.{heard_bytes_both}
+
+bytes_both : (xs ys : List Act) → bytes_of (xs ++ ys) ≡ bytes_of xs ++ bytes_of ys
+unfolding bytes_of
+bytes_both [] ys = refl
+bytes_both (Commit c ∷ xs) ys = bytes_both xs ys
+bytes_both (Emit line ∷ xs) ys = ap (λ (b : List ℕ). line ++ b) (bytes_both xs ys) ∙ sym (append_assoc line (bytes_of xs) (bytes_of ys))
 
 -- of its steps
 step_lines : (hs : List Heard) (ds : List ScriptStep) → AreSteps hs ds → heard_bytes hs ≡ bytes_of (acts_of ds)
@@ -17,8 +25,8 @@ unfolding AreSteps bytes_of
 step_lines [] [] told = refl
 step_lines [] (d ∷ ds) told = absurd told
 step_lines (h ∷ hs) [] told = absurd told
-step_lines (Turned view after acts ∷ hs) (d ∷ ds) ((state, same), told) = (λ i. bytes_of (same i) ++ step_lines hs ds told i) ∙ sym (bytes_joined d.acts (acts_of ds))
-step_lines (Done after acts ∷ hs) (d ∷ ds) ((state, same), told) = (λ i. bytes_of (same i) ++ step_lines hs ds told i) ∙ sym (bytes_joined d.acts (acts_of ds))
+step_lines (Turned view after acts ∷ hs) (d ∷ ds) ((state, same), told) = (λ i. bytes_of (same i) ++ step_lines hs ds told i) ∙ sym (bytes_both d.acts (acts_of ds))
+step_lines (Done after acts ∷ hs) (d ∷ ds) ((state, same), told) = (λ i. bytes_of (same i) ++ step_lines hs ds told i) ∙ sym (bytes_both d.acts (acts_of ds))
 step_lines (Asked command ∷ hs) (d ∷ ds) (none, told) = absurd none
 step_lines (Over turns end ∷ hs) (d ∷ ds) (none, told) = absurd none
 

@@ -1,0 +1,5 @@
+pub mod Lines
+pub mod Printed
+pub mod Sent
+pub mod SoFar
+pub mod Talks
