@@ -309,6 +309,8 @@ def kill_again_and_again(served):
     for _ in range(KILLS):
         time.sleep(SECONDS_BETWEEN_KILLS)
         served.post("/kill", {})
+        # (long enough that somebody types meanwhile, however fast the monitor is)
+        time.sleep(SECONDS_BETWEEN_KILLS)
         served.post("/start", {})
 
 
