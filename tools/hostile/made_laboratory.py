@@ -428,9 +428,10 @@ class Contest:
             yield f"* {lines[0]}, but {[it['orders'] for it in found]}"
         if int(head[1]) > self.most or head[2] != "ALL" and int(head[1]) != self.most:
             yield f"* {lines[0]} of {self.most}"
-        comes_to = [(it["SENT"], it["TABLES"]) for it in found]
-        if any(it in comes_to[:place] for place, it in enumerate(comes_to)):
+        told = [(set(it["marks"]), self.by_names(it["SENT"]), it["TABLES"]) for it in found]
+        if any(it in told[:place] for place, it in enumerate(told)):
             yield "* two outcomes are the same"
+        comes_to = [(lines, tables) for _, lines, tables in told]
         marked = any("STANDSTILL" in it["marks"] or "SPENT" in it["marks"] for it in found)
         if status != (len(found) > 1 or marked):
             yield f"* status {status}"
@@ -457,10 +458,23 @@ class Contest:
                 found[-1][part].append(line[2:])
         return found
 
+    @staticmethod
+    def by_names(lines):
+        """The lines for each name, the second word of a line, in their order."""
+        found = {}
+        for line in lines:
+            found.setdefault(line.split(" ")[1], []).append(line)
+        return found
+
+    def is_among(self, ran, comes_to):
+        """Whether what `utm` came to has the tables and the lines for each name of one of the outcomes."""
+        (ended, sent), (shown, tables) = ran
+        return (ended, shown) == (0, 0) and (self.by_names(sent), tables) in comes_to
+
     def rotation(self, folder, comes_to):
         """The order that `utm` takes has to come to one of the outcomes."""
         ran = self.outcome(folder, [*self.begins, self.run])
-        if ran not in [((0, sent), (0, tables)) for sent, tables in comes_to]:
+        if not self.is_among(ran, comes_to):
             yield f"* utm comes to {ran} by its {self.run}, which is none of {comes_to}"
 
     def others(self, folder, comes_to):
@@ -469,7 +483,7 @@ class Contest:
             lean = (0.0, 1.0, 0.5, 0.2, 0.8)[place % 5]
             turns = [f"TURN {1 + (self.random.random() < lean)}" for _ in range(self.random.choice((2, 5, 9, 14, 40)))]
             ran = self.outcome(folder, [*self.begins, *turns, "RUN 100"])
-            if ran not in [((0, sent), (0, tables)) for sent, tables in comes_to]:
+            if not self.is_among(ran, comes_to):
                 yield f"* the order {turns} comes to {ran}, which is none of {comes_to}"
                 return
 

@@ -1,5 +1,6 @@
 pub mod Fitted
 pub mod Generation
+pub mod Hashing
 pub mod Index
 pub mod PlacesLaws
 pub mod Soundness

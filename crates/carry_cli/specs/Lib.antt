@@ -3,7 +3,6 @@ pub mod KindsLaws
 pub mod Lines
 pub mod Words
 pub mod Writing
-pub mod Rows
 pub mod Telling
 pub mod Seeing
 pub mod Carrying

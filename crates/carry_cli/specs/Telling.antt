@@ -11,7 +11,7 @@ use Rattle.kd_update.specs.declared.error.UpdateError.TheVariants as cause
 use Rattle.refusals.specs.Lines.{file_line}
 use Rattle.refusals.specs.declared.error.FileRefusal.TheVariants as file
 use Rattle.call_parts.specs.Missing.{missing_line}
-use Rattle.carry_cli.specs.Rows.{rows_text}
+use Rattle.monitor_parts.specs.Parts.{rows_text}
 use Rattle.carry_cli.specs.declared.answer.Answer.{Answer}
 use Rattle.carry_cli.specs.declared.answer.Answer.TheVariants as answer
 use Rattle.carry_cli.specs.declared.answer.Hindrance.{Hindrance}

@@ -3,13 +3,13 @@ ghost use Rattle.std.specs.{Prelude.{◌≡◌, ◌++◌, IfOk}, String.{string_
 ghost use Rattle.kdcfile_update.specs.Report.{dropped_line, up_to_date_line, update_line};
 ghost use Rattle.carry_cli.specs.Telling.{answer_status, answer_text, hindrance_line, judged_line, lost_text, report_text, would_drop_line};
 
-use crate::row_lines::rows_text;
 use application_types::generation::Generation;
 use call_parts::missing_line;
 use kd_base::{Bytes, OutOfMemory};
 use kd_device::Half;
 use kd_update::{Dropped, UpdateError};
 use kdcs_types::Row;
+use monitor_parts::output_lines::put_rows;
 use refusals::Status;
 use std::alloc::{AllocError, Global};
 
@@ -147,12 +147,14 @@ impl Answer {
                 Ok(text)
             }
             Answer::WouldCarry(gone, rows) => {
-                let mut text = rows_text(alloc, rows)?;
+                let mut text = Bytes::new(alloc);
+                put_rows(alloc, rows, &mut text)?;
                 text.append(report_text(alloc, generation, *gone)?.as_slice())?;
                 Ok(text)
             }
             Answer::WouldDrop(rows) => {
-                let mut text = rows_text(alloc, rows)?;
+                let mut text = Bytes::new(alloc);
+                put_rows(alloc, rows, &mut text)?;
                 text.append(would_drop_line(alloc, rows.len())?.as_bytes())?;
                 Ok(text)
             }

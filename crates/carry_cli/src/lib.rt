@@ -21,7 +21,6 @@ mod laws;
 mod lines;
 mod making;
 mod next;
-mod row_lines;
 mod seeing;
 mod state;
 mod text_kinds;

@@ -16,8 +16,8 @@ use device_acts::record_commits::{acts_are_named, steps_can_be_stored};
 use device_acts::warm_start::OpenError;
 use kdcs_types::Act;
 use laws_of_states::laws_of_steps::steps_commit_once;
+use monitor_core::Core;
 use monitor_core::script_run::Sink;
-use monitor_core::{Core, Turned};
 use std::alloc::Global;
 
 /// A keeper under a script, its files made with this fingerprint, how many commits it made, and who sees the turns.
@@ -84,12 +84,14 @@ impl<K: Reopens, W: Watcher> Sink for Storing<'_, '_, K, W> {
         Ok((next, did.moved))
     }
 
-    fn idle(&mut self, alloc: Global, core: Core, task: u16) -> Result<Core, OpenError> {
-        self.watcher.before(&core, task);
-        let next = core.idle(task);
-        self.watcher
-            .after(&next, task, &Turned::quiet(alloc, false));
-        Ok(next)
+    fn idle(
+        &mut self,
+        _alloc: Global,
+        core: Core,
+        task: u16,
+        most: u16,
+    ) -> Result<(Core, u16), OpenError> {
+        Ok((core.idle(task, most), most))
     }
 
     fn apply(&mut self, alloc: Global, core: Core, command: &Command) -> Result<Core, OpenError> {

@@ -4,7 +4,8 @@ ghost use Rattle.laws_of_states.specs.Keeping.{HasFacts};
 
 use monitor_core::{Core, Turned};
 
-/// Sees each turn of a task before it and after it. What it makes of them is its own: a run does the same whoever sees it.
+/// Sees each turn of a task before it and after it, but those of free tasks where there is no work. What it makes of them
+/// is its own: a run does the same whoever sees it.
 pub trait Watcher {
     /// A turn of this task is next on this core.
     fn before(&mut self, core: &Core, task: u16)

@@ -1,4 +1,4 @@
--- Laws: the entries of a tree are pairs in ascending order, and its changes are those of such pairs.
+-- Laws: the changes of a tree are those of pairs in ascending order.
 use Rattle.std.specs.Prelude.{◌≡◌, refl, cond, not, IsTrue, List, [], ◌∷◌, Some, None, IsSome}
 use Rattle.std.proofs.Common.{ap, subst, sym, ◌∙◌}
 use Rattle.std.specs.Ordering.{is_eq, is_lt, eq_by_cmp, match_ordering}
@@ -8,10 +8,8 @@ use Rattle.std.specs.Cmp.{IsTotalOrder}
 use Rattle.std.specs.FinMap.{find, put, is_sorted}
 use Rattle.std.specs.FinMap.Entries.{by_order, below_all}
 use Rattle.std.specs.BTreeMap.{insert_entry, is_at}
-use Rattle.std.specs.Map.{keys_of, lookup, remove_entry, set_value}
-use Rattle.std.specs.List.{AllByRecursion}
-use Rattle.std.specs.List.Sorted.{IsStrictlySortedBy}
-use Rattle.kd_base.specs.ToolsLaws.{both_true, true_both}
+use Rattle.std.specs.Map.{lookup, remove_entry, set_value}
+use Rattle.kd_base.specs.ToolsLaws.{both_true}
 use Rattle.kd_base.specs.OrderLaws.{is_less}
 use Rattle.kd_base.specs.Places.{without}
 
@@ -31,16 +29,6 @@ module _ {K X : Type 0} (R : K → K → Ordering) where
       by Less rest = refl
       by Equal rest = refl
       by Greater rest = ap (λ (l : List (K × X)). e ∷ l) rest
-
-  below_of : (k : K) (es : List (K × X)) → AllByRecursion (λ q. R k q ≡ Less) (keys_of es) → IsTrue (below_all R k es)
-  below_of k [] up = refl
-  below_of k (e ∷ es) up = true_both (is_lt (R k e.0)) (below_all R k es) (ap is_lt up.0) (below_of k es up.1)
-
-  -- the keys of a tree strictly rise
-  pub in_order : (es : List (K × X)) → IsStrictlySortedBy R (keys_of es) → IsTrue (is_sorted R es)
-  unfolding IsStrictlySortedBy
-  in_order [] up = refl
-  in_order (e ∷ es) up = true_both (below_all R e.0 es) (is_sorted R es) (below_of e.0 es up.0) (in_order es up.1)
 
   absent_after : (k : K) (e : K × X) (es : List (K × X)) → IsTotalOrder R → R k e.0 ≡ Equal → IsTrue (below_all R e.0 es) → without R k es ≡ es
   absent_after k e [] o tied below = refl

@@ -1,6 +1,5 @@
 //! Names of TACs, users, terminals, areas, blocks and program units.
 ghost use Rattle.std.specs.{Prelude.{◌≡◌, ◌≤◌, List, ℕ, IfSome, SomeIff, Some, length, nat_eq, refl}, List.{list_all, prefix_len}};
-ghost use Rattle.std.specs.Hash as fed;
 ghost use Rattle.std.specs.{Ordering.{nat_cmp}, Cmp.{partial_equiv_from_equiv}, Cmp.Lexicographic.{pointwise, slice_cmp, nat_list_eq_equiv, nat_list_cmp_total, texts_ties, texts_po}};
 ghost use Rattle.kd_base.specs.Text.{is_name_byte, is_space, IsName, IsNameUpTo, name_up_to, name_in, padded};
 
@@ -155,16 +154,18 @@ impl<const N: usize> Ord for NameOf<N> {
     }
 }
 
+// Filled with spaces, names of one type are all fed as so many bytes, in one write.
 impl<const N: usize> Hash for NameOf<N> {
     ghost use Rattle.std.proofs.Common.{rules};
+    ghost use Rattle.std.specs.Prelude.{[], ◌∷◌};
     ghost use Rattle.std.specs.Cmp.Rules.{hashing};
-    ghost use Rattle.std.specs.Hash as fed;
+    ghost use Rattle.kd_base.specs.Text.{filled};
 
-    ghost hash_input = { fed.slice fed.u8 };
+    ghost hash_input = { λ name. filled N name ∷ [] };
 
     ghost respects_eq = { Prim.search (hashing, rules) };
 
     fn hash<H: Hasher>(&self, state: &mut H) {
-        self.as_slice().hash(state);
+        state.write(&self.cells);
     }
 }

@@ -6,6 +6,8 @@
 
 mod ordered;
 mod pairs;
+mod walk;
 
 pub use ordered::OrderedMap;
 pub use pairs::{SortedPairs, place_of};
+pub use walk::Pairs;

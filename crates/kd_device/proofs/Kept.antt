@@ -1,8 +1,8 @@
 -- One call more of what is kept.
 use Rattle.std.proofs.Common.{◌≡◌, ◌≢◌, ℕ, suc, ◌+◌, ◌≤◌, ◌<◌, List, [], ◌∷◌, ◌++◌, length, take, drop, get_or, set, Bool, true, false, cond}
 use Rattle.std.proofs.Common.{refl, sym, ap, subst, ◌∙◌, inl, inr, arith, length-append}
-use Rattle.std.specs.Prelude.{nat_eq}
-use Rattle.std.proofs.lemmas.List.{take-append-le, drop-append-le, take_all, drop_at, length-drop, map_push, get_or-map, get_or-set_same, get_or-set_other, length-set, length-map, map-set}
+use Rattle.std.specs.Prelude.{nat_eq, replicate}
+use Rattle.std.proofs.lemmas.List.{take-append-le, take-take, drop-append-le, drop_at, length-drop, length-take-le, map_push, get_or-map, get_or-set_same, get_or-set_other, length-set, length-map, map-set}
 use Rattle.std.proofs.lemmas.Bool.{eqb-true, eqb-false, cases_Bool}
 use Rattle.std.proofs.Math.Seq.{map-set_same}
 use Rattle.kd_device.specs.Device.{written}
@@ -15,8 +15,10 @@ use Rattle.kd_device.specs.Recording.{starts_of, bytes_of, ends_of, AreAsMade, I
 use Rattle.kd_device.proofs.Grows.{after_push}
 
 piece_same : (kept more : List ℕ) (span : Span) → Fits (length kept) span → piece (kept ++ more) span ≡ piece kept span
-piece_same kept more span le =
-    ap (λ (l : List ℕ). take span.len l) (drop-append-le span.from kept more (omega arith)) ∙ take-append-le span.len (drop span.from kept) more (omega (arith, length-drop span.from kept))
+piece_same kept more span fits =
+    ap (λ (l : List ℕ). l ++ replicate span.zeros 0)
+    (ap (λ (l : List ℕ). take span.len l) (drop-append-le span.from kept more (omega (arith, fits.within)))
+    ∙ take-append-le span.len (drop span.from kept) more (omega (arith, fits.within, length-drop span.from kept)))
 
 event_same : (kept more : List ℕ) (x : Call) → IsInside (length kept) x → event (kept ++ more) x ≡ event kept x
 event_same kept more (Write disk at span done) h = ap (λ (l : List ℕ). Wrote disk at l done) (piece_same kept more span h)
@@ -32,10 +34,13 @@ pub names_same : (kept more : List ℕ) (spans : List (ℕ × Span)) → AllFit 
 names_same kept more [] h = refl
 names_same kept more (x ∷ spans) h = rw (piece_same kept more x.1 h.0, names_same kept more spans h.1) refl
 
+fits_wider : (n m : ℕ) (span : Span) → n ≤ m → Fits n span → Fits m span
+fits_wider n m span le fits = record { within = omega (arith, le, fits.within); small = fits.small }
+
 inside_wider : (n m : ℕ) (x : Call) → n ≤ m → IsInside n x → IsInside m x
-inside_wider n m (Write disk at span done) le h = omega arith
+inside_wider n m (Write disk at span done) le h = fits_wider n m span le h
 inside_wider n m (Sync disk done) le h = tt
-inside_wider n m (Emit span done) le h = omega arith
+inside_wider n m (Emit span done) le h = fits_wider n m span le h
 
 pub all_inside : (n m : ℕ) (calls : List Call) → n ≤ m → AllInside n calls → AllInside m calls
 all_inside n m [] le h = tt
@@ -43,7 +48,7 @@ all_inside n m (x ∷ calls) le h = (inside_wider n m x le h.0, all_inside n m c
 
 pub all_fit : (n m : ℕ) (spans : List (ℕ × Span)) → n ≤ m → AllFit n spans → AllFit m spans
 all_fit n m [] le h = tt
-all_fit n m (x ∷ spans) le h = (omega arith, all_fit n m spans le h.1)
+all_fit n m (x ∷ spans) le h = (fits_wider n m x.1 le h.0, all_fit n m spans le h.1)
 
 inside_push : (n : ℕ) (calls : List Call) (x : Call) → AllInside n calls → IsInside n x → AllInside n (calls ++ x ∷ [])
 inside_push n [] x h i = (i, tt)
@@ -54,11 +59,17 @@ fit_push n [] x h i = (i, tt)
 fit_push n (y ∷ spans) x h i = (h.0, fit_push n spans x h.1 i)
 
 -- the bytes after those that were kept
-pub last_piece : (kept more : List ℕ) (span : Span) → IsBehind kept more span → piece (kept ++ more) span ≡ more
-last_piece kept more span behind = rw (behind.from, behind.len) (ap (λ (l : List ℕ). take (length more) l) (drop_at kept more (length kept) refl) ∙ take_all (length more) more (omega arith))
+pub last_piece : (kept more : List ℕ) (span : Span) → IsBehind kept more span → piece (kept ++ take span.len more) span ≡ more
+last_piece kept more span behind =
+    let front : List ℕ = take span.len more in
+    ap (λ (n : ℕ). take span.len (drop n (kept ++ front)) ++ replicate span.zeros 0) behind.from
+    ∙ ap (λ (l : List ℕ). take span.len l ++ replicate span.zeros 0) (drop_at kept front (length kept) refl)
+    ∙ ap (λ (l : List ℕ). l ++ replicate span.zeros 0) (take-take span.len span.len more (omega arith))
+    ∙ sym behind.zeros
 
-pub behind_fits : (kept more : List ℕ) (span : Span) → IsBehind kept more span → Fits (length (kept ++ more)) span
-behind_fits kept more span behind = omega (arith, behind.from, behind.len, length-append kept more)
+pub behind_fits : (kept more : List ℕ) (span : Span) → IsBehind kept more span → Fits (length (kept ++ take span.len more)) span
+behind_fits kept more span behind =
+    record { within = omega (arith, behind.from, length-append kept (take span.len more), length-take-le span.len more behind.within); small = behind.small }
 
 -- one call more
 module _ (kept more : List ℕ) (calls : List Call) (spans : List (ℕ × Span)) (kept' : List ℕ) (keeps : kept' ≡ kept ++ more) (inside : AllInside (length kept) calls) (fit : AllFit (length kept) spans) where
@@ -89,15 +100,15 @@ module _ (kept more : List ℕ) (calls : List Call) (spans : List (ℕ × Span))
       fit = fit_still;
     }
 
-  module _ (disk : ℕ) (span : Span) (spans' : List (ℕ × Span)) (adds : spans' ≡ spans ++ (disk, span) ∷ []) (behind : IsBehind kept more span) where
-    pub names_are : kept_names kept' spans' ≡ kept_names kept spans ++ (disk, more) ∷ []
-    names_are = rw adds (map_push (kept_name kept') spans (disk, span) ∙ ap (λ (ns : List (ℕ × List ℕ)). ns ++ kept_name kept' (disk, span) ∷ []) names_stay ∙ ap (λ (l : List ℕ). kept_names kept spans ++ (disk, l) ∷ []) (ap (λ (l : List ℕ). piece l span) keeps ∙ last_piece kept more span behind))
+  module _ (disk : ℕ) (name : List ℕ) (span : Span) (spans' : List (ℕ × Span)) (adds : spans' ≡ spans ++ (disk, span) ∷ []) (is : piece (kept ++ more) span ≡ name) (fits : Fits (length (kept ++ more)) span) where
+    pub names_are : kept_names kept' spans' ≡ kept_names kept spans ++ (disk, name) ∷ []
+    names_are = rw adds (map_push (kept_name kept') spans (disk, span) ∙ ap (λ (ns : List (ℕ × List ℕ)). ns ++ kept_name kept' (disk, span) ∷ []) names_stay ∙ ap (λ (l : List ℕ). kept_names kept spans ++ (disk, l) ∷ []) (ap (λ (l : List ℕ). piece l span) keeps ∙ is))
 
     pub named_push : (files : List FileNow) (sent : List ℕ) → AreAsMade files sent (after (at_first (starts_of files)) (events kept calls)) → IsRecording files sent kept' calls spans'
     named_push files sent made = record {
       made = rw events_stay made;
       inside = inside_still;
-      fit = rw (adds) (fit_push (length kept') spans (disk, span) fit_still (rw keeps (behind_fits kept more span behind)));
+      fit = rw (adds) (fit_push (length kept') spans (disk, span) fit_still (rw keeps fits));
     }
 
 -- after a write, or a sync, or an emit, that the files follow

@@ -1,3 +1,4 @@
+mod Fronts
 pub mod Grows
 pub mod InUse
 pub mod Kept

@@ -1,5 +1,5 @@
 -- Disk files and an output line in memory, as contracts see them: by the calls that were made.
-use Rattle.std.specs.Prelude.{◌≡◌, ◌≤◌, ◌<◌, ℕ, ◌+◌, ◌-◌, max, true, if◌then◌else◌, nat_eq, List, [], ◌∷◌, ◌++◌, length, take, drop, map, get_or}
+use Rattle.std.specs.Prelude.{◌≡◌, ◌≤◌, ◌<◌, ℕ, ◌+◌, ◌-◌, ◌^◌, max, true, if◌then◌else◌, nat_eq, List, [], ◌∷◌, ◌++◌, length, take, drop, map, get_or, replicate}
 use Rattle.kd_device.specs.declared.call.Span.{Span}
 use Rattle.kd_device.specs.declared.call.Call.{Call}
 use Rattle.kd_device.specs.declared.call.Call.TheVariants.{Write, Sync, Emit}
@@ -81,12 +81,14 @@ reserved r calls bytes end =
 
 -- the bytes of a span of a buffer
 abbrev pub piece : List ℕ → Span → List ℕ
-piece kept span = take span.len (drop span.from kept)
+piece kept span = take span.len (drop span.from kept) ++ replicate span.zeros 0
 
--- the span of bytes that are put after those that are kept
+-- the span of bytes of which those in front are put after those that are kept, and the others are zero
 pub record IsBehind (kept more : List ℕ) (span : Span) : Type 0 where
   pub from : span.from ≡ length kept
-  pub len : span.len ≡ length more
+  pub within : span.len ≤ length more
+  pub zeros : more ≡ take span.len more ++ replicate span.zeros 0
+  pub small : span.len + span.zeros < 2 ^ 64
 
 -- the kept calls
 abbrev pub event : List ℕ → Call → Event
@@ -105,8 +107,9 @@ abbrev pub kept_names : List ℕ → List (ℕ × Span) → List (ℕ × List �
 kept_names kept spans = map (kept_name kept) spans
 
 -- a buffer of n bytes has what is named of it
-abbrev pub Fits : ℕ → Span → Type 0
-Fits n span = span.from + span.len ≤ n
+pub record Fits (n : ℕ) (span : Span) : Type 0 where
+  pub within : span.from + span.len ≤ n
+  pub small : span.len + span.zeros < 2 ^ 64
 
 abbrev pub IsInside : ℕ → Call → Type 0
 IsInside n (Write disk at span done) = Fits n span

@@ -1,22 +1,51 @@
 //! Reads of a file in memory, and writes to buffers that have the capacity.
-ghost use Rattle.std.specs.{Prelude.{◌≡◌, ◌≤◌, ◌<◌, ◌+◌, ◌-◌, ◌++◌, ◌∷◌, [], length, take, drop, min, if◌then◌else◌}, Vec.{vec_len, vec_capacity}};
+ghost use Rattle.std.specs.{Prelude.{◌≡◌, ◌≤◌, ◌<◌, ◌+◌, ◌-◌, ◌++◌, ◌∷◌, [], ℕ, length, take, drop, get_or, replicate, min, if◌then◌else◌}, Vec.{vec_len, vec_capacity}};
 ghost use Rattle.kd_device.specs.{Device.{written}, Recording.{IsBehind}};
 
 use crate::call::Span;
 
-/// Puts these bytes after those that are kept, and answers where they are.
+// The greatest of these bytes, or 0.
+fn greatest(bytes: &[u8]) -> u8
+    ensures { (k : ℕ) → get_or bytes.now k 0 ≤ result }
+{
+    let mut most = 0;
+    for byte in bytes {
+        most = most.max(*byte);
+    }
+    most
+}
+
+/// The last piece of zero bytes is sought by halves down to this many bytes.
+const SMALLEST: usize = 32;
+
+// How many bytes are in front of zero bytes, where the halves at the end are all zero.
+fn front_len(bytes: &[u8]) -> usize
+    ensures within { result ≤ length bytes.now }
+    ensures zeros { bytes.now ≡ take result bytes.now ++ replicate (length bytes.now - result) 0 }
+{
+    let mut len = bytes.len();
+    while len > SMALLEST && greatest(&bytes[len / 2..len]) == 0 {
+        len /= 2;
+    }
+    len
+}
+
+/// Puts these bytes after those that are kept, but for zero bytes at their end, and answers where they are.
 pub fn keep(kept: &mut Vec<u8>, bytes: &[u8]) -> Span
     requires { vec_len kept.old + length bytes.now ≤ vec_capacity kept.old }
     ensures span { IsBehind kept.old.items bytes.now result }
-    ensures items { kept.new.items ≡ kept.old.items ++ bytes.now }
-    ensures len { vec_len kept.new ≡ vec_len kept.old + length bytes.now }
+    ensures items { kept.new.items ≡ kept.old.items ++ take result.len bytes.now }
+    ensures len { vec_len kept.new ≤ vec_len kept.old + length bytes.now }
     ensures capacity { vec_capacity kept.old ≤ vec_capacity kept.new }
 {
+    let len = front_len(bytes);
+    let (front, _) = bytes.split_at(len);
     let span = Span {
         from: kept.len(),
-        len: bytes.len(),
+        len,
+        zeros: bytes.len() - len,
     };
-    let _ = kept.extend_from_slice(bytes);
+    let _ = kept.extend_from_slice(front);
     span
 }
 

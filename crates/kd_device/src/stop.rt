@@ -1,9 +1,9 @@
 //! What a stop leaves of a disk in memory.
 ghost use Rattle.std.specs.Prelude.{◌≡◌, ◌≤◌, ◌+◌, ◌<◌, List, ℕ, length, IfOk, OnOk, if◌then◌else◌};
-ghost use Rattle.kd_device.specs.{Device.{written, Torn}, History.{Disk, Moment, StopLeaves, IsDone, AllDone, is_on, moved, step_on, after, fresh}, Recording.{event, events, IsInside, AllInside}};
+ghost use Rattle.kd_device.specs.{Device.{written, Torn}, History.{Disk, Moment, StopLeaves, IsDone, AllDone, is_on, moved, step_on, after, fresh}, Recording.{event, events, piece, Fits, IsInside, AllInside}};
 
 use crate::buffer::overwrite;
-use crate::call::Call;
+use crate::call::{Call, Span};
 use std::alloc::{AllocError, Global};
 
 /// How much of a write that was not synced a stop leaves.
@@ -66,8 +66,20 @@ fn tear(
     }
 }
 
+/// The bytes of a span of what is kept.
+fn bytes_of(alloc: Global, kept: &[u8], span: &Span) -> Result<Vec<u8>, AllocError>
+    requires { Fits (length kept.now) span.now }
+    ensures { IfOk result (λ v. v.items ≡ piece kept.now span.now) }
+{
+    let mut bytes = Vec::with_capacity(alloc, span.len + span.zeros)?;
+    bytes.extend_from_slice(&kept[span.from..span.from + span.len])?;
+    bytes.resize(span.len + span.zeros, 0)?;
+    Ok(bytes)
+}
+
 /// One call on this disk, as reads see it and as a stop may leave it.
 fn advance(
+    alloc: Global,
     bytes: &mut Vec<u8>,
     image: &mut Vec<u8>,
     call: &Call,
@@ -82,10 +94,10 @@ fn advance(
 {
     match call {
         Call::Write { at, span, done, .. } => {
-            let new = &kept[span.from..span.from + span.len];
+            let new = bytes_of(alloc, kept, span)?;
             let first = (*at).min(bytes.len());
-            tear(image, first, *at, new, part)?;
-            write_if(bytes, *at, new, *done)?;
+            tear(image, first, *at, &new, part)?;
+            write_if(bytes, *at, &new, *done)?;
             Ok(())
         }
         Call::Sync { done, .. } => {
@@ -111,6 +123,7 @@ fn is_call_on(disk: usize, call: &Call) -> bool
 
 /// One call.
 fn advance_if(
+    alloc: Global,
     disk: usize,
     bytes: &mut Vec<u8>,
     image: &mut Vec<u8>,
@@ -125,7 +138,7 @@ fn advance_if(
     ensures image { OnOk result ((d : Disk) → bytes.old.items ≡ d.bytes → StopLeaves d image.old.items → StopLeaves (step_on disk (event kept.now call.now) d) image.new.items) }
 {
     if is_call_on(disk, call) {
-        advance(bytes, image, call, kept, part)
+        advance(alloc, bytes, image, call, kept, part)
     } else {
         Ok(())
     }
@@ -170,7 +183,7 @@ pub fn image_after(
     let mut digits = choice;
     for call in calls {
         let part = part_of(digits);
-        advance_if(disk, &mut bytes, &mut image, call, kept, part)?;
+        advance_if(alloc, disk, &mut bytes, &mut image, call, kept, part)?;
         digits = next_digits(choice, digits);
     }
     Ok(image)

@@ -8,7 +8,7 @@ use Rattle.kd_device.specs.declared.half.Half.TheVariants.{First, Second}
 use Rattle.kd_device.specs.Twin.{Both, Disk, half_leaves, half_state, other}
 use Rattle.kd_device.specs.Apart.{EarlierAt, IsSince}
 use Rattle.kdcfile_copies.specs.Beside.{SameDisk}
-use Rattle.kdcfile_carry.proofs.HalfUsed.{other_stays, rests_beside}
+use Rattle.kdcfile_copies.proofs.kdcfile_halves.HalfUsed.{other_stays, rests_beside}
 use Rattle.kdcfile_double.specs.CommitTwoLaws.{one_frame}
 use Rattle.kdcfile_double.specs.MakingLaws.{RestsBoth, SentNowBoth, first_rests_both}
 use Rattle.kdcfile_double.specs.Twice.{FrameBoth, NoneRose}

@@ -5,7 +5,6 @@ pub mod Counting
 pub mod FirstUsed
 pub mod Found
 pub mod Gone
-pub mod HalfUsed
 pub mod NewTables
 pub mod Shutting
 pub mod Sizes

@@ -10,12 +10,11 @@ ghost use Rattle.kdcfile_carry.specs.{Files.{AreNone, HaveTwoMeanings}, Finding.
 
 use crate::error::FilesError;
 use crate::first_file::open_first;
-use crate::reading::{copy_in, read_two};
 use device_acts::warm_start::OpenError;
 use kd_device::{Half, Twin};
 use kd_update::UpdateError;
 use kdcfile_copies::{LoadedCopy, bare_content};
-use kdcfile_double::are_alike;
+use kdcfile_double::{are_alike, copy_in, read_both};
 use kdcs_types::Tables;
 use record_codec::tables_of;
 use std::alloc::Global;
@@ -232,6 +231,6 @@ pub(crate) fn find<T: Twin>(alloc: Global, twin: &mut T) -> Result<Kept, FilesEr
     ensures fine { (IsErrOf result FilesError.Failed → ⊥) → NoneRose (T.both twin.old) (T.both twin.new) }
     ensures frame { FrameBoth (T.both twin.old) (T.both twin.new) }
 {
-    let (first, second) = read_two(alloc, twin)?;
+    let (first, second) = read_both(alloc, twin)?;
     find_in(alloc, twin, copy_in(first), copy_in(second))
 }

@@ -26,7 +26,6 @@ mod losing;
 mod new_tables;
 mod outcome;
 mod planning;
-mod reading;
 
 pub use backing::{BackUpError, back_up};
 pub use error::FilesError;

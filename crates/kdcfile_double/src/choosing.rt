@@ -3,29 +3,18 @@ ghost use Rattle.std.specs.Prelude.{◌≡◌, ◌↔◌, ℕ, List, IsTrue, IfO
 ghost use Rattle.kd_records.specs.Identity.{Identity};
 ghost use Rattle.laws_of_states.specs.Suits.{Suits};
 ghost use Rattle.kdcfile_double.specs.{Twice.{IsTwice, IsOpen, with_copies, sequence_of}, Opening.{KeepsTablesTwice, identity_twice}};
-ghost use Rattle.kdcfile_double.specs.Choice.{IsChoice, IsCounted, IsLoadedIf, IsOfTwo, SuitsTwice, KeepsNoneTwice, KeepsOthersTwice, copy_in};
+ghost use Rattle.kdcfile_double.specs.Choice.{IsChoice, IsCounted, IsLoadedIf, IsOfTwo, SuitsTwice, KeepsNoneTwice, KeepsOthersTwice};
 
 use crate::alike::are_alike;
 use crate::store::TwinStore;
 use application_types::generation::Generation;
 use device_acts::warm_start::{OpenError, limits_of};
-use kdcfile_copies::{Found, LoadedCopy, bare_content};
+use kdcfile_copies::{LoadedCopy, bare_content};
 use kdcfile_store::StoreLimits;
 use kdcs_types::Tables;
 use record_codec::tables_of;
 use std::alloc::Global;
 use table_fit::suits;
-
-/// The copy that was found, if one was.
-pub(crate) fn copy_in(found: Found) -> Option<LoadedCopy>
-    ensures { result ≡ copy_in found }
-{
-    match found {
-        Found::Copy(copy) => Some(copy),
-        Found::Empty => None,
-        Found::NoCopy => None,
-    }
-}
 
 /// These copies are in use, which are alike.
 pub(crate) fn in_use(first: Option<LoadedCopy>, second: Option<LoadedCopy>) -> TwinStore

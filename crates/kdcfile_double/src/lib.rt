@@ -15,9 +15,11 @@ mod error;
 mod mend;
 mod one_half;
 mod opening;
+mod reading;
 mod store;
 
 pub use alike::are_alike;
 pub use error::TwinOpenError;
-pub use opening::opened;
+pub use opening::{are_empty, opened};
+pub use reading::{copy_in, read_both};
 pub use store::TwinStore;

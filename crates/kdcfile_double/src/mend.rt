@@ -7,7 +7,7 @@ ghost use Rattle.kdcfile_double.specs.Twice.{IsOpen, IsInUse, IsKeptTwice, Frame
 ghost use Rattle.kdcfile_double.specs.Mended.{BothRest, FineMending, IsBehind, IsMendingOne, IsTaken, TakesAfter, lost_at};
 
 use crate::alike::are_alike;
-use crate::choosing::copy_in;
+use crate::reading::copy_in;
 use crate::store::TwinStore;
 use kd_device::{DeviceError, Half, Twin};
 use kdcfile_copies::LoadedCopy;

@@ -12,14 +12,15 @@ ghost use Rattle.kdcfile_double.specs.Opening.{AreEmpty, AreInUseSo, HasNoTables
 ghost use Rattle.kdcfile_double.specs.{Opening.{identity_twice}, Twice.{FineTwice, SparesLine, SparesOne, with_copies}};
 ghost use Rattle.kdcfile_double.specs.{Choice.{AreOfFiles}, Mended.{BothRest}, MakingLaws.{RestsBoth}, Committing.{IsKeptAt}, OneHalfLaws.{KeepsSome}, ReopenLaws.{AreAgain}};
 
-use crate::choosing::{chosen, copy_in, in_use};
+use crate::choosing::{chosen, in_use};
 use crate::error::TwinOpenError;
 use crate::one_half::reload;
+use crate::reading::{copy_in, read_both};
 use crate::store::TwinStore;
 use application_types::generation::Generation;
 use device_acts::warm_start::OpenError;
 use kd_device::{Half, Twin};
-use kdcfile_copies::kdcfile_halves::{load_half, make_half};
+use kdcfile_copies::kdcfile_halves::make_half;
 use kdcfile_copies::{Found, LoadedCopy};
 use kdcfile_store::StoreLimits;
 use kdcs_types::Tables;
@@ -51,7 +52,8 @@ fn is_empty(found: &Found) -> bool
     }
 }
 
-fn are_empty(first: &Found, second: &Found) -> bool
+/// Whether both files are empty or not there.
+pub fn are_empty(first: &Found, second: &Found) -> bool
     ensures { IsTrue result ↔ ((first.now ≡ Found.Empty) × (second.now ≡ Found.Empty)) }
 {
     is_empty(first) && is_empty(second)
@@ -90,24 +92,6 @@ fn empty<T: Twin>(
     let first = make_half(alloc, twin, Half::First, &limits, fingerprint)?;
     let second = make_half(alloc, twin, Half::Second, &limits, fingerprint)?;
     Ok((in_use(Some(first), Some(second)), Tables::empty(alloc)))
-}
-
-// Reads both files, which stay as they are.
-fn read_both<T: Twin>(alloc: Global, twin: &mut T) -> Result<(Found, Found), TwinOpenError>
-    ensures first { IfOk result (λ o. IsFound o.0) }
-    ensures second { IfOk result (λ o. IsFound o.1) }
-    ensures first_answer { IfOk result (λ o. IsTrue (T.both twin.old).told → IsAnswer o.0 (T.both twin.old).first.holds) }
-    ensures second_answer { IfOk result (λ o. IsTrue (T.both twin.old).told → IsAnswer o.1 (T.both twin.old).second.holds) }
-    ensures at_rest { OnOk result (IsTrue (T.both twin.old).told → BothRest (T.both twin.new) (T.leaves twin.new)) }
-    ensures rests { IsTrue (T.both twin.old).told → RestsBoth (T.both twin.old) (T.both twin.new) (T.leaves twin.old) (T.leaves twin.new) }
-    ensures told { (IsErrOf result TwinOpenError.NotKdcfile → ⊥) × ((stored : List ℕ) → IsErrOf result (TwinOpenError.OtherGeneration stored) → ⊥) × ((n : ℕ) → IsErrOf result (TwinOpenError.Spent n) → ⊥) }
-    ensures failed { IsErrOf result TwinOpenError.Failed → RoseAt First (T.both twin.old) (T.both twin.new) ⊎ RoseAt Second (T.both twin.old) (T.both twin.new) }
-    ensures fine { (IsErrOf result TwinOpenError.Failed → ⊥) → NoneRose (T.both twin.old) (T.both twin.new) }
-    ensures frame { FrameBoth (T.both twin.old) (T.both twin.new) }
-{
-    let first = load_half(alloc, twin, Half::First)?;
-    let second = load_half(alloc, twin, Half::Second)?;
-    Ok((first, second))
 }
 
 /// The store of what was found in two files, and the tables that it keeps. It reads no file and mends nothing.

@@ -1,7 +1,7 @@
 //! Writes of pages side by side, made as one.
 ghost use Rattle.std.specs.Prelude.{◌↔◌, ◌≡◌, ◌≤◌, ◌<◌, ◌+◌, ◌++◌, ◌∷◌, [], List, IsTrue, IfOk, OnOk};
 ghost use Rattle.kdcfile_layout.specs.declared.page.PageWrite.{PageWrite};
-ghost use Rattle.kdcfile_layout.specs.Joined.{Follows, joined_write, AreJoined};
+ghost use Rattle.kdcfile_layout.specs.Joined.{Follows, NoneFollows, joined_write, AreJoined};
 
 use crate::page::PageWrite;
 use kd_base::{Bytes, OutOfMemory};
@@ -54,10 +54,25 @@ fn put_joined(to: &mut Vec<PageWrite>, next: PageWrite) -> Result<(), OutOfMemor
     }
 }
 
+// Whether no write follows the one before it.
+fn are_apart(writes: &[PageWrite]) -> bool
+    ensures { IsTrue result → NoneFollows writes.now }
+{
+    for n in 1..writes.len() {
+        if follows(&writes[n - 1], &writes[n]) {
+            return false;
+        }
+    }
+    true
+}
+
 /// These writes, where each of pages is one with the next ones that begin where it ends.
 pub fn joined(alloc: Global, writes: Vec<PageWrite>) -> Result<Vec<PageWrite>, OutOfMemory>
     ensures { IfOk result (λ v. AreJoined writes.items v.items) }
 {
+    if are_apart(writes.as_slice()) {
+        return Ok(writes);
+    }
     let mut out = Vec::new(alloc);
     for write in writes {
         put_joined(&mut out, write)?;

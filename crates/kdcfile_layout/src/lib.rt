@@ -33,5 +33,5 @@ pub use making::make_file;
 pub use page::PageWrite;
 pub use part::read_part;
 pub use sizes::{directory_pages, page_count};
-pub use spell::{NO_PAGE, directory_page, head_bytes, page_place, put_chain};
+pub use spell::{NO_PAGE, directory_page, page_place, put_chain};
 pub use synced::{bring_to_rest, write_synced};

@@ -27,11 +27,9 @@ pub fn page_place(size: u32, page: u32) -> u64
     24_576 + u64::from(page) * u64::from(size)
 }
 
-#[tactic(auto, unfolding(crate::specs::Layout::zeros))]
-// Adds so many zero bytes.
-fn add_zeros(to: &mut Vec<u8>, count: usize) -> Result<(), OutOfMemory>
-    requires small { count ≤ 8192 }
-    requires room { length to.old.items ≤ 8192 }
+/// Adds so many zero bytes.
+pub(crate) fn add_zeros(to: &mut Vec<u8>, count: usize) -> Result<(), OutOfMemory>
+    requires { count < 2 ^ 40 }
     ensures bytes { OnOk result (to.new.items ≡ to.old.items ++ zeros count) }
     ensures length { OnOk result (length to.new.items ≡ length to.old.items + count) }
 {
@@ -52,42 +50,26 @@ fn pad(page: &mut Vec<u8>, size: u32, there: bool) -> Result<(), OutOfMemory>
     add_zeros(page, count)
 }
 
-#[tactic(auto, unfolding(crate::specs::Layout::chain_head))]
-// Puts the 48 bytes in front of a value's part into an empty buffer.
-fn put_head(
-    to: &mut Vec<u8>,
-    key: &RecordKey,
-    whole: u32,
-    part: u32,
-    next: u32,
-) -> Result<(), OutOfMemory>
-    requires empty { to.old.items ≡ [] }
-    ensures bytes { OnOk result (to.new.items ≡ chain_head key.now whole part next) }
-    ensures length { OnOk result (length to.new.items ≡ 48) }
+// Puts bytes over those from a place on.
+fn put_over(to: &mut [u8], at: usize, bytes: &[u8])
+    requires { at + length bytes.now ≤ length to.old }
+    ensures { to.new ≡ take at to.old ++ bytes.now ++ drop (at + length bytes.now) to.old }
 {
-    to.push(key.kind)?;
-    to.extend_from_slice(&key.bytes)?;
-    to.extend_from_slice(&whole.to_be_bytes())?;
-    to.extend_from_slice(&part.to_be_bytes())?;
-    to.extend_from_slice(&next.to_be_bytes())?;
-    add_zeros(to, 11)
+    to[at..at + bytes.len()].copy_from_slice(bytes);
 }
 
 /// The 48 bytes in front of a value's part: the key, the length of the whole value, the number of the part from 0 on,
 /// the next page, and zero bytes.
-pub fn head_bytes(
-    alloc: Global,
-    key: &RecordKey,
-    whole: u32,
-    part: u32,
-    next: u32,
-) -> Result<Vec<u8>, OutOfMemory>
-    ensures bytes { IfOk result (λ v. v.items ≡ chain_head key.now whole part next) }
-    ensures length { IfOk result (λ v. length v.items ≡ 48) }
+pub(crate) fn head_bytes(key: &RecordKey, whole: u32, part: u32, next: u32) -> [u8; 48]
+    ensures { result ≡ chain_head key.now whole part next }
 {
-    let mut out = Vec::with_capacity(alloc, HEAD_LEN)?;
-    put_head(&mut out, key, whole, part, next)?;
-    Ok(out)
+    let mut head = [0; 48];
+    head[0] = key.kind;
+    put_over(&mut head, 1, &key.bytes);
+    put_over(&mut head, 25, &whole.to_be_bytes());
+    put_over(&mut head, 29, &part.to_be_bytes());
+    put_over(&mut head, 33, &next.to_be_bytes());
+    head
 }
 
 // A page of a record, with this part of its value: as far as that goes, where the file has the page already.
@@ -105,8 +87,13 @@ fn chain_page(
     requires fits { 48 + length front.now ≤ size }
     ensures { IfOk result (λ b. b ≡ front_or_whole size (chain_head key.now whole part next ++ front.now) there) }
 {
-    let mut out = Vec::with_capacity(alloc, HEAD_LEN + front.len())?;
-    put_head(&mut out, key, whole, part, next)?;
+    let room = if there {
+        HEAD_LEN + front.len()
+    } else {
+        size as usize
+    };
+    let mut out = Vec::with_capacity(alloc, room)?;
+    out.extend_from_slice(&head_bytes(key, whole, part, next))?;
     out.extend_from_slice(front)?;
     pad(&mut out, size, there)?;
     Ok(Bytes::from_vec(out))

@@ -60,7 +60,7 @@ fn next_draft(
     let Ok(directory) = image.root().directory.as_slice().to_vec(alloc) else {
         return Err(table);
     };
-    let mut draft = Draft::new(alloc, directory, table, long)?;
+    let mut draft = Draft::new(alloc, directory, table, long);
     let pages = plan.pages.as_slice();
     match draft.prepare(alloc, image.blksize(), pages, patch.items.as_slice()) {
         Ok(()) => Ok(draft),

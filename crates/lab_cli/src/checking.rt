@@ -1,39 +1,47 @@
 //! `check`: all that is found in the texts.
-ghost use Rattle.std.specs.Prelude.{◌∷◌, [], IfOk};
-ghost use Rattle.refusals.specs.Statuses.{IsOneOf};
+ghost use Rattle.std.specs.Prelude.{IfOk};
+ghost use Rattle.kd_device.specs.Room.{SameRoom};
+ghost use Rattle.lab_cli.specs.{Answers.{CheckCame}, Checking.{IsChecked, IsStatusOf}};
 
+use crate::reading::texts_of;
 use crate::stop::Stop;
 use kd_base::OutOfMemory;
 use kd_device::{DeviceError, Room};
-use lab_check::lab_findings::{Refusal, TextName};
-use lab_check::{Checked, findings};
+use lab_check::{Checked, Verdict, findings};
+use lab_turns::LabError;
 use lab_turns::lab_printing::Console;
 use lab_warnings::{Warned, warnings};
 use refusals::{Status, text};
 use std::alloc::Global;
 
 // The script, where it can be read.
-fn script_of<R: Room>(alloc: Global, room: &mut R, base: &[u8]) -> Result<Option<Vec<u8>>, Stop> {
+fn script_of<R: Room>(
+    alloc: Global,
+    room: &mut R,
+    base: &[u8],
+) -> Result<Option<Vec<u8>>, OutOfMemory>
+    ensures { SameRoom (R.room room.old) (R.room room.new) }
+{
     match text(alloc, room, base, b".script") {
         Ok(script) => Ok(Some(script)),
         Err(DeviceError::Failed) => Ok(None),
-        Err(DeviceError::Memory) => Err(Stop::Memory),
+        Err(DeviceError::Memory) => Err(OutOfMemory),
     }
 }
 
 // A refusal of the definition or the units goes before one of the script.
-fn status_of(refusals: &[Refusal]) -> Status
-    ensures { IsOneOf (0 ∷ 1 ∷ 2 ∷ 3 ∷ []) result.code }
+fn status_of(checked: &Checked) -> Status
+    ensures { IsStatusOf checked.now.verdict result.code }
 {
-    if refusals
-        .iter()
-        .any(|refusal| refusal.text != TextName::Script)
-    {
-        Status::APPLICATION
-    } else if !refusals.is_empty() {
-        Status::SCRIPT
-    } else {
-        Status::DONE
+    match &checked.verdict {
+        Verdict::Refused(_) => Status::APPLICATION,
+        Verdict::Accepted(_) => {
+            if checked.refusals.is_empty() {
+                Status::DONE
+            } else {
+                Status::SCRIPT
+            }
+        }
     }
 }
 
@@ -49,7 +57,7 @@ fn tell<C: Console>(
     console: &mut C,
     checked: &Checked,
     warned: &[Warned],
-) -> Result<(), Stop> {
+) -> Result<(), LabError> {
     for refusal in &checked.refusals {
         let mut line = refusal.printed(alloc)?;
         line.extend_from_slice(checked.details.printed(alloc, refusal)?.as_slice())?;
@@ -64,20 +72,20 @@ fn tell<C: Console>(
     Ok(())
 }
 
-// Prints what is found in the texts of this BASE, and says what it is.
-fn tell_texts<R: Room, C: Console>(
+// Prints what is found in these texts.
+fn check_texts<C: Console>(
     alloc: Global,
-    room: &mut R,
     console: &mut C,
-    base: &[u8],
-) -> Result<Checked, Stop> {
-    let definition = text(alloc, room, base, b".def")?;
-    let units = text(alloc, room, base, b".units")?;
-    let script = script_of(alloc, room, base)?;
-    let checked = findings(alloc, &definition, &units, script.as_deref())?;
-    let warned = warnings(alloc, &definition, &units, &checked.verdict)?;
+    definition: &[u8],
+    units: &[u8],
+    script: Option<&[u8]>,
+) -> Result<Status, LabError>
+    ensures { IfOk result (λ status. IsChecked definition.now units.now status.code) }
+{
+    let checked = findings(alloc, definition, units, script)?;
+    let warned = warnings(alloc, definition, units, &checked.verdict)?;
     tell(alloc, console, &checked, warned.as_slice())?;
-    Ok(checked)
+    Ok(status_of(&checked))
 }
 
 /// Prints all that is found in the texts of this BASE, a line each, or `OK`. The script need not be there.
@@ -87,8 +95,16 @@ pub(crate) fn check<R: Room, C: Console>(
     console: &mut C,
     base: &[u8],
 ) -> Result<Status, Stop>
-    ensures { IfOk result (λ status. IsOneOf (0 ∷ 1 ∷ 2 ∷ 3 ∷ []) status.code) }
+    ensures came { CheckCame base.now (R.room room.old) (R.room room.new) console.old console.new result }
+    ensures same { SameRoom (R.room room.old) (R.room room.new) }
 {
-    let checked = tell_texts(alloc, room, console, base)?;
-    Ok(status_of(checked.refusals.as_slice()))
+    let texts = texts_of(alloc, room, base, false)?;
+    let script = script_of(alloc, room, base)?;
+    Ok(check_texts(
+        alloc,
+        console,
+        &texts.definition,
+        &texts.units,
+        script.as_deref(),
+    )?)
 }

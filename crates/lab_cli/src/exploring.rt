@@ -1,5 +1,5 @@
 //! `explore`: the distinct outcomes of the orders of the tasks.
-ghost use Rattle.std.specs.{Prelude.{◌≡◌, ◌≤◌, ◌^◌, true, false, cond, IfOk, IsTrue, sum_by}, List.{list_any}};
+ghost use Rattle.std.specs.{Prelude.{◌≡◌, ◌≤◌, ◌^◌, true, false, cond, IfOk, IfSome, IsTrue, sum_by}, List.{list_any}};
 ghost use Rattle.application_types.specs.Fitted.{IsFit};
 ghost use Rattle.laws_of_runs.specs.Applied.{applied};
 ghost use Rattle.laws_of_states.specs.{Keeping.{IsScriptOf}, Suits.{Suits}};
@@ -21,10 +21,13 @@ use std::alloc::Global;
 /// How many turns and commands an order of a script may have.
 const MOST_TRIES: u64 = 100_000_000_000_000;
 
-/// Orders differ, or a service waits at the end of one, or a RUN of one is spent.
+/// How many tasks there are at most.
+const MOST_TASKS: u64 = 65_535;
+
+/// Orders differ, or one comes to a standstill, or a RUN of one is spent.
 const DIFFER: Status = Status { code: 1 };
 
-// What was seen in an order of the outcome, a word each.
+// The signs of an outcome, a word each.
 fn put_signs(out: &mut Bytes, signs: Signs) -> Result<(), OutOfMemory> {
     if signs.k04 {
         out.append(b" K04")?;
@@ -67,7 +70,7 @@ fn put_below(out: &mut Bytes, lines: &[u8]) -> Result<(), OutOfMemory> {
     Ok(())
 }
 
-// How many orders come to the outcome, and what was seen in them.
+// How many orders come to the outcome, and its signs.
 fn outcome_line(alloc: Global, number: u64, outcome: &Outcome) -> Result<Bytes, OutOfMemory> {
     let mut out = Bytes::from_slice(alloc, b"OUTCOME ")?;
     put_number(alloc, &mut out, number)?;
@@ -172,19 +175,19 @@ fn status_of(outcomes: &[Outcome]) -> Status
     }
 }
 
-// How many turns and commands a command comes to at most in an order.
-fn tries_of(command: &Command) -> u64
-    ensures { result ≡ tries_of command.now }
+// How many turns and commands a command comes to at most in an order, with a turn of each task where a RUN ends.
+fn tries_of(command: &Command) -> Option<u64>
+    ensures { IfSome result (λ tries. tries ≡ tries_of command.now) }
 {
     match command {
-        Command::Run(turns) => *turns,
+        Command::Run(turns) => turns.checked_add(MOST_TASKS),
         Command::Input(_, _)
         | Command::Tick(_)
         | Command::Turn(_)
         | Command::Drop(_)
         | Command::Print(_)
         | Command::PrintLast(_)
-        | Command::Restart => 1,
+        | Command::Restart => Some(1),
     }
 }
 
@@ -194,7 +197,9 @@ fn can_be_counted(commands: &[Command]) -> bool
 {
     let mut sum: u64 = 0;
     for command in commands {
-        let tries = tries_of(command);
+        let Some(tries) = tries_of(command) else {
+            return false;
+        };
         if tries > MOST_TRIES - sum {
             return false;
         }
@@ -238,8 +243,8 @@ fn explore_script<C: Console>(
 
 /// Tries the orders of the tasks: all, where there are at most `most`, and else as many, drawn from this number. It prints
 /// their distinct outcomes: of each how many orders come to it, the script of the shortest of them, what it sends, and the
-/// tables at its end. The status is 1 where there are two outcomes, where a service waits at the end of an order, and where a
-/// RUN of one is over by its count while a task's turn would still have an effect.
+/// tables at its end. The status is 1 where there are two outcomes, where nobody can go on at the end of an order while a
+/// service waits, and where a RUN of one ends while a task's turn has an effect.
 pub fn explore_orders<C: Console>(
     alloc: Global,
     console: &mut C,

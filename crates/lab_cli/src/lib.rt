@@ -6,12 +6,14 @@
 //! and keeps what it does in memory: no file is made, attached or written. It is generic over the room that has the texts
 //! and over the console, so that all of it can be tried in memory.
 //!
-//! To the program above, its contract says which words `lab` takes and what its status is; and that what `explore_orders`
-//! prints are outcomes of orders, all of them where it says so. What `trace`, `talk` and `test` promise, lab_scripts says.
+//! To the program above, its contract says that `lab` works on just what the texts and the files of its BASE are, and does
+//! from there what lab_scripts and lab_orders say of its word; that it is refused for its cause alone, with the line and
+//! the status of `utm`; and that words of no form get the usage line. What `check` and `explore` print, no clause says.
 #![tactic(auto)]
 
 mod checking;
 mod exploring;
+mod files;
 mod reading;
 mod stop;
 mod top;

@@ -1,12 +1,12 @@
 //! Why a call did nothing of what is asked for.
 ghost use Rattle.std.specs.Prelude.{◌≡◌};
 ghost use Rattle.lab_cli.specs.declared.stop.Stop.TheVariants as stops;
-ghost use Rattle.lab_cli.specs.Causes.{of_device, of_lab};
+ghost use Rattle.lab_cli.specs.Causes.{of_device, of_lab, of_text};
 
 use kd_base::OutOfMemory;
 use kd_device::DeviceError;
 use lab_turns::LabError;
-use refusals::Refusal;
+use refusals::{Refusal, TextError};
 use std::alloc::AllocError;
 use thiserror::Error;
 
@@ -68,6 +68,18 @@ impl From<LabError> for Stop {
             LabError::Memory => Stop::Memory,
             // No call does 10^18 turns.
             LabError::Output | LabError::Spent => Stop::Output,
+        }
+    }
+}
+
+impl From<TextError> for Stop {
+    ghost from_gives = { λ e r. r ≡ of_text e };
+
+    fn from(e: TextError) -> Self {
+        match e {
+            TextError::Refused(why) => Stop::Texts(why),
+            TextError::Room => Stop::Room,
+            TextError::Memory => Stop::Memory,
         }
     }
 }

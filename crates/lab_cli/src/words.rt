@@ -10,7 +10,7 @@ use kd_base::decimal_of;
 const LONGEST_BASE: usize = 200;
 
 /// What a call may ask for.
-#[derive(Clone, Copy, PartialEq, Eq)]
+#[derive(Clone, Copy)]
 pub enum Word {
     /// All faults and warnings of the texts.
     Check,

@@ -1,5 +1,5 @@
 -- The walks that were tried, and those that are still to be walked.
-use Rattle.std.proofs.Common.{◌≡◌, ℕ, ◌+◌, ◌<◌, List, [], ◌∷◌, inl, inr, refl, sym, subst, ◌∙◌, arith, length}
+use Rattle.std.proofs.Common.{◌≡◌, ℕ, ◌+◌, ◌<◌, List, [], ◌∷◌, inl, inr, refl, sym, ap, subst, ◌∙◌, arith, length}
 use Rattle.std.specs.Prelude.{◌⊎◌, true}
 use Rattle.std.proofs.lemmas.Bool.{true≢false}
 use Rattle.kdcs_types.specs.Tables.{TableRows}
@@ -10,13 +10,14 @@ use Rattle.laws_of_states.specs.ItemsLaws.{IsIn}
 use Rattle.lab_orders.specs.declared.explored.Explored.{Explored}
 use Rattle.lab_orders.specs.declared.explored.Outcome.{Outcome}
 use Rattle.lab_walks.specs.declared.frame.Frame.{Frame}
-use Rattle.lab_orders.specs.declared.search.Found.{Found}
-use Rattle.lab_orders.specs.Exploring.{AreAll, AreOrdered, AreOutcomes, IsAdded, IsDrawn, IsOfAllWalks, IsShown, IsTally, IsTried}
+use Rattle.lab_orders.specs.declared.performed.Found.{Found}
+use Rattle.lab_orders.specs.Exploring.{AreAll, AreOrdered, AreOutcomes, IsAdded, IsDrawn, IsMet, IsOfAllWalks, IsShown, IsTally, IsTried}
 use Rattle.lab_orders.specs.Finding.{Descended, IsFound}
 use Rattle.lab_walks.specs.Frames.{Advanced, IsAhead, IsLeft}
 use Rattle.lab_orders.specs.Laws.{OrdersAreWalked, Starts, WalksAreOrders}
 use Rattle.lab_walks.specs.Lists.{AreOnce}
 use Rattle.lab_walks.specs.Orders.{worked}
+use Rattle.lab_walks.specs.Outcomes.{Result}
 use Rattle.lab_walks.specs.Frames.{IsWay}
 use Rattle.lab_orders.specs.Told.{AreMore}
 use Rattle.lab_walks.specs.Walks.{IsWalk}
@@ -116,9 +117,9 @@ module _ (app : Application) (t : TableRows) (cs : List Command) where
       let h = walked app t cs starts order is in
       shown outcomes (all (worked app cs (started app t) order) h.walk)
     where
-      shown : (outcomes : List Outcome) → IsShown app t cs outcomes (worked app cs (started app t) order) → IsShown app t cs outcomes order
+      shown : (outcomes : List Outcome) → IsShown app t cs outcomes (worked app cs (started app t) order) → IsMet app t cs outcomes order
       shown [] h = absurd h
-      shown (x ∷ xs) (inl here) = inl ((walked app t cs starts order is).same x.sent x.tables here)
+      shown (x ∷ xs) (inl here) = inl ((walked app t cs starts order is).same x.lines x.tables (record { sent_is = ap (λ (r : Result). r.lines) here; tables_are = ap (λ (r : Result). r.tables) here }))
       shown (x ∷ xs) (inr later) = inr (shown xs later)
 
   -- what is told of all walks, or of those that were drawn

@@ -4,16 +4,13 @@ use Rattle.std.specs.Prelude.{◌⊎◌, Bool, true, false, All, Some, None, con
 use Rattle.std.proofs.lemmas.Bool.{true≢false}
 use Rattle.std.proofs.lemmas.List.{append-nil, length-replicate, take_all, take_more}
 use Rattle.kdcs_types.specs.Tables.{TableRows}
-use Rattle.kdcs_types.specs.declared.act.Act.{Act}
 use Rattle.abstract_monitor.specs.declared.command.Command.{Command}
 use Rattle.abstract_monitor.specs.declared.command.Command.TheVariants.{Run}
-use Rattle.abstract_monitor.specs.Bytes.{Bytes}
-use Rattle.abstract_monitor.specs.Commands.{ScriptStep, acts_of, command_of, state_after, turned_step}
+use Rattle.abstract_monitor.specs.Commands.{command_of, turned_step}
 use Rattle.abstract_monitor.specs.CommandsOf.{IsCommandOf}
 use Rattle.abstract_monitor.specs.Endings.{durable}
-use Rattle.abstract_monitor.specs.Listing.{listing}
 use Rattle.abstract_monitor.specs.State.{Application, State}
-use Rattle.abstract_monitor.specs.Trace.{bytes_of, tables_after}
+use Rattle.abstract_monitor.specs.Trace.{tables_after}
 use Rattle.abstract_monitor.specs.Turns.{Turned, turn_of}
 use Rattle.laws_of_states.specs.Keeping.{HasFacts, IsScriptOf}
 use Rattle.laws_of_states.specs.Steps.{StepsMakeTheirTables, TurnsCommitOnce}
@@ -22,14 +19,14 @@ use Rattle.monitor_core.specs.CoreValue.{CoreValue}
 use Rattle.monitor_core.specs.Keeping.{AreKept}
 use Rattle.service_ends.specs.declared.turned.Turned.{Turned as Did}
 use Rattle.lab_orders.specs.declared.path.Path.{Path}
-use Rattle.lab_orders.specs.Drawing.{CameIntoRun, CameToCommands, Drew, IsAwake, Script, Tells}
-use Rattle.lab_walks.specs.Orders.{HasOutcome, IsAtRest, IsTurn, has_effect, order_steps, turned_script}
+use Rattle.lab_orders.specs.Drawing.{CameIntoRun, CameToCommands, Drew, IsAwake, Script}
+use Rattle.lab_walks.specs.Orders.{IsAtRest, IsTurn, has_effect}
 use Rattle.lab_orders.specs.Trying.{Tried}
 use Rattle.lab_orders.specs.Walking.{DidCommand, IsBeside, IsNoRun, tries_of}
 use Rattle.lab_walks.specs.Walks.{CanBe, InRun, IsEnd, IsWalk, Spot, idle_count, idle_from, stand}
 use Rattle.lab_orders.proofs.Commands.{acts_are_kept, durable_after, name_here, tries_here}
 use Rattle.lab_walks.specs.ListsLaws.{each_more, not_none}
-use Rattle.lab_orders.proofs.Steps.{acts_both, after_both, after_one, bytes_both, command_steps, moved, no_acts_after, no_steps, over_steps, rest_steps, run_steps, stand_begins, stand_behind, stand_ends, stand_none, stand_over, stand_rest, stand_turn, turn_steps}
+use Rattle.lab_orders.proofs.Steps.{moved, stand_begins, stand_behind, stand_ends, stand_none, stand_over, stand_rest, stand_turn}
 
 -- ---- tasks that rest
 
@@ -91,83 +88,42 @@ all_rest app s l rest tasks all t turn =
 
 -- ---- what was taken
 
-tells_more : {All Behind : List ℕ → List ScriptStep} {start s : State} {taken sent : List ℕ} → Tells All Behind start s taken sent
-    → (Next : List ℕ → List ScriptStep) (taken' : List ℕ) (turns : List ℕ → List ℕ) (more : List ScriptStep) (s' : State) (sent' : Bytes)
-    → ((o : List ℕ) → taken' ++ o ≡ taken ++ turns o)
-    → ((o : List ℕ) → Behind (turns o) ≡ more ++ Next o)
-    → s' ≡ state_after s more → sent' ≡ sent ++ bytes_of (acts_of more)
-    → Tells All Next start s' taken' sent'
-tells_more {All} {start = start} t Next taken' turns more s' sent' front behind state bytes = record {
-  steps = t.steps ++ more;
-  are = λ o. ap All (front o) ∙ t.are (turns o) ∙ ap (λ (l : List ScriptStep). t.steps ++ l) (behind o) ∙ sym (append_assoc t.steps more (Next o));
-  state = state ∙ ap (λ (u : State). state_after u more) t.state ∙ sym (after_both start t.steps more);
-  bytes =
-      bytes
-      ∙ ap (λ (b : Bytes). b ++ bytes_of (acts_of more)) t.bytes
-      ∙ sym (bytes_both (acts_of t.steps) (acts_of more))
-      ∙ ap bytes_of (sym (acts_both t.steps more));
-}
-
-no_bytes : (sent : Bytes) → sent ≡ sent ++ bytes_of (acts_of [])
-unfolding bytes_of
-no_bytes sent = sym (append-nil sent)
-
-one_said : (sent : Bytes) (d : ScriptStep) → sent ++ bytes_of d.acts ≡ sent ++ bytes_of (acts_of (d ∷ []))
-one_said sent d = ap (λ (l : List Act). sent ++ bytes_of l) (sym (append-nil d.acts))
-
-module _ (q : Script) (app : Application) (n room : ℕ) (cs : List Command) (s : State) (taken sent : List ℕ) (same : q.app ≡ app) where
-  here_is : CameIntoRun q app s (suc n) room cs taken sent → stand q.app q.commands q.start taken ≡ InRun n room s
+module _ (q : Script) (app : Application) (n room : ℕ) (cs : List Command) (s : State) (taken : List ℕ) (same : q.app ≡ app) where
+  here_is : CameIntoRun q app s (suc n) room cs taken → stand q.app q.commands q.start taken ≡ InRun n room s
   here_is came = ap (stand q.app q.commands q.start) (sym (append-nil taken)) ∙ came.spot [] ∙ stand_none app s (stand app cs) room n
 
-  can_more : CameIntoRun q app s (suc n) room cs taken sent → (t : ℕ) → CanBe app (InRun n room s) t → (before : List ℕ) (u : ℕ) (behind : List ℕ) → taken ++ t ∷ [] ≡ before ++ u ∷ behind → CanBe q.app (stand q.app q.commands q.start before) u
+  can_more : CameIntoRun q app s (suc n) room cs taken → (t : ℕ) → CanBe app (InRun n room s) t → (before : List ℕ) (u : ℕ) (behind : List ℕ) → taken ++ t ∷ [] ≡ before ++ u ∷ behind → CanBe q.app (stand q.app q.commands q.start before) u
   can_more came t can = each_more (λ (before : List ℕ) (u : ℕ). CanBe q.app (stand q.app q.commands q.start before) u) taken t came.can
       (subst (λ (p : Spot). CanBe q.app p t) (sym (here_is came)) (subst (λ (a : Application). CanBe a (InRun n room s) t) (sym same) can))
 
-  pub came_turn : CameIntoRun q app s (suc n) room cs taken sent → (t : ℕ) → IsTurn app s t → (sent' : Bytes) → sent' ≡ sent ++ bytes_of (turn_of app s t).acts
+  pub came_turn : CameIntoRun q app s (suc n) room cs taken → (t : ℕ) → IsTurn app s t
       → (app' : Application) → app' ≡ app → (s' : State) → s' ≡ (turn_of app s t).after → (room' : ℕ) → room' ≡ room + idle_count app s
-      → CameIntoRun q app' s' n room' cs (taken ++ t ∷ []) sent'
-  came_turn came zero turn sent' said app' same' s' state room' room_is = let within : 1 ≤ 0 = turn.within.0 in absurd (omega (arith, within))
-  came_turn came (suc t) turn sent' said app' same' s' state room' room_is =
-      subst (λ r. CameIntoRun q app' s' n r cs (taken ++ suc t ∷ []) sent') (sym room_is)
-      (moved (λ a u. CameIntoRun q a u n (room + idle_count app s) cs (taken ++ suc t ∷ []) sent') same' state (record {
+      → CameIntoRun q app' s' n room' cs (taken ++ t ∷ [])
+  came_turn came zero turn app' same' s' state room' room_is = let within : 1 ≤ 0 = turn.within.0 in absurd (omega (arith, within))
+  came_turn came (suc t) turn app' same' s' state room' room_is =
+      subst (λ r. CameIntoRun q app' s' n r cs (taken ++ suc t ∷ [])) (sym room_is)
+      (moved (λ a u. CameIntoRun q a u n (room + idle_count app s) cs (taken ++ suc t ∷ [])) same' state (record {
         can = can_more came (suc t) turn;
         spot = λ o. ap (stand q.app q.commands q.start) (append_assoc taken (suc t ∷ []) o) ∙ came.spot (suc t ∷ o) ∙ stand_turn app s (stand app cs) room n t o;
-        tells = tells_more came.tells _ (taken ++ suc t ∷ []) (λ o. suc t ∷ o) (turned_step (turn_of app s (suc t)) ∷ []) (turn_of app s (suc t)).after sent' (append_assoc taken (suc t ∷ [])) (turn_steps app s n (turned_script cs) t)
-            (sym (after_one s (turned_step (turn_of app s (suc t))) [] ∙ no_acts_after (turn_of app s (suc t)).after)) (said ∙ one_said sent (turned_step (turn_of app s (suc t))));
       }))
 
-  pub came_rest : CameIntoRun q app s (suc n) room cs taken sent → CanBe app (InRun n room s) 0 → CameToCommands q app s cs (taken ++ 0 ∷ []) sent
+  pub came_rest : CameIntoRun q app s (suc n) room cs taken → CanBe app (InRun n room s) 0 → CameToCommands q app s cs (taken ++ 0 ∷ [])
   came_rest came can = record {
     can = can_more came 0 can;
     spot = λ o. ap (stand q.app q.commands q.start) (append_assoc taken (0 ∷ []) o) ∙ came.spot (0 ∷ o) ∙ stand_rest app s (stand app cs) room n o;
-    tells = tells_more came.tells _ (taken ++ 0 ∷ []) (λ o. 0 ∷ o) [] s sent (append_assoc taken (0 ∷ [])) (rest_steps app s n (turned_script cs)) (sym (no_acts_after s)) (no_bytes sent);
   }
 
-pub came_into : (q : Script) (app : Application) (n : ℕ) (cs : List Command) (s : State) (taken sent : List ℕ) → CameToCommands q app s (Run n ∷ cs) taken sent → CameIntoRun q app s n 0 cs taken sent
-came_into q app n cs s taken sent came = record {
-  can = came.can;
-  spot = λ o. came.spot o ∙ stand_begins app n cs s o;
-  tells = tells_more came.tells _ taken (λ o. o) [] s sent (λ o. refl) (run_steps app n cs s) (sym (no_acts_after s)) (no_bytes sent);
-}
+pub came_into : (q : Script) (app : Application) (n : ℕ) (cs : List Command) (s : State) (taken : List ℕ) → CameToCommands q app s (Run n ∷ cs) taken → CameIntoRun q app s n 0 cs taken
+came_into q app n cs s taken came = record { can = came.can; spot = λ o. came.spot o ∙ stand_begins app n cs s o }
 
-pub came_out : (q : Script) (app : Application) (room : ℕ) (cs : List Command) (s : State) (taken sent : List ℕ) → CameIntoRun q app s 0 room cs taken sent → CameToCommands q app s cs taken sent
-came_out q app room cs s taken sent came = record {
-  can = came.can;
-  spot = λ o. came.spot o ∙ stand_over app s (stand app cs) room o;
-  tells = tells_more came.tells _ taken (λ o. o) [] s sent (λ o. refl) (over_steps app s (turned_script cs)) (sym (no_acts_after s)) (no_bytes sent);
-}
+pub came_out : (q : Script) (app : Application) (room : ℕ) (cs : List Command) (s : State) (taken : List ℕ) → CameIntoRun q app s 0 room cs taken → CameToCommands q app s cs taken
+came_out q app room cs s taken came = record { can = came.can; spot = λ o. came.spot o ∙ stand_over app s (stand app cs) room o }
 
-came_command : (q : Script) (app : Application) (c : Command) (cs : List Command) (s : State) (taken sent : List ℕ) → CameToCommands q app s (c ∷ cs) taken sent → IsNoRun c
-    → (sent' : List ℕ) → sent' ≡ sent ++ bytes_of (command_of app s c).acts
+came_command : (q : Script) (app : Application) (c : Command) (cs : List Command) (s : State) (taken : List ℕ) → CameToCommands q app s (c ∷ cs) taken → IsNoRun c
     → (app' : Application) → app' ≡ app → (s' : State) → s' ≡ (command_of app s c).after
-    → CameToCommands q app' s' cs taken sent'
-came_command q app c cs s taken sent came no_run sent' said app' same s' state =
-    moved (λ a u. CameToCommands q a u cs taken sent') same state (record {
-      can = came.can;
-      spot = λ o. came.spot o ∙ stand_behind app c cs s no_run o;
-      tells = tells_more came.tells _ taken (λ o. o) (command_of app s c ∷ []) (command_of app s c).after sent' (λ o. refl) (command_steps app c cs s no_run)
-          (sym (after_one s (command_of app s c) [] ∙ no_acts_after (command_of app s c).after)) (said ∙ one_said sent (command_of app s c));
-    })
+    → CameToCommands q app' s' cs taken
+came_command q app c cs s taken came no_run app' same s' state =
+    moved (λ a u. CameToCommands q a u cs taken) same state (record { can = came.can; spot = λ o. came.spot o ∙ stand_behind app c cs s no_run o })
 
 -- ---- a RUN
 
@@ -181,7 +137,7 @@ pub record Drawing (c d : CoreValue) (before now : Path) (turns made effects : �
   pub rest : Rest d.application d.state resting
   pub room : ℕ
   pub count : made ≤ effects + room + rests_in resting
-  pub run : (q : Script) (cs : List Command) → q.app ≡ c.application → CameIntoRun q c.application c.state turns 0 cs before.turns before.sent → CameIntoRun q d.application d.state (turns - effects) room cs now.turns now.sent
+  pub run : (q : Script) (cs : List Command) → q.app ≡ c.application → CameIntoRun q c.application c.state turns 0 cs before.turns → CameIntoRun q d.application d.state (turns - effects) room cs now.turns
 
 no_rest : (app : Application) (s : State) (n : ℕ) → Rest app s (replicate n false)
 no_rest app s n k e = absurd (true≢false (sym e ∙ none n k))
@@ -201,7 +157,7 @@ drawing_start c before turns tasks resting beside tasks_are none = record {
   rest = subst (Rest c.application c.state) (sym none) (no_rest c.application c.state tasks);
   room = 0;
   count = omega arith;
-  run = λ q cs same r. let all : turns ≡ turns - 0 = omega arith in subst (λ n. CameIntoRun q c.application c.state n 0 cs before.turns before.sent) all r;
+  run = λ q cs same r. let all : turns ≡ turns - 0 = omega arith in subst (λ n. CameIntoRun q c.application c.state n 0 cs before.turns) all r;
 }
 
 module _ (c d : CoreValue) (before now : Path) (turns made effects : ℕ) (resting : List Bool) (drawing : Drawing c d before now turns made effects resting) where
@@ -218,38 +174,38 @@ module _ (c d : CoreValue) (before now : Path) (turns made effects : ℕ) (resti
     beside = drawing.beside;
     came = λ q cs same r.
         let none : turns - effects ≡ 0 = omega (arith, over) in
-        came_out q d.application drawing.room cs d.state now.turns now.sent
-        (subst (λ n. CameIntoRun q d.application d.state n drawing.room cs now.turns now.sent) none (drawing.run q cs same (came_into q c.application turns cs c.state before.turns before.sent r)));
+        came_out q d.application drawing.room cs d.state now.turns
+        (subst (λ n. CameIntoRun q d.application d.state n drawing.room cs now.turns) none (drawing.run q cs same (came_into q c.application turns cs c.state before.turns r)));
   }
 
   module _ (lt : effects < turns) where
     one_less : turns - effects ≡ suc (turns - (effects + 1))
     one_less = omega (arith, lt)
 
-    run_here : (q : Script) (cs : List Command) → q.app ≡ c.application → CameIntoRun q c.application c.state turns 0 cs before.turns before.sent → CameIntoRun q d.application d.state (suc (turns - (effects + 1))) drawing.room cs now.turns now.sent
-    run_here q cs same r = subst (λ n. CameIntoRun q d.application d.state n drawing.room cs now.turns now.sent) one_less (drawing.run q cs same r)
+    run_here : (q : Script) (cs : List Command) → q.app ≡ c.application → CameIntoRun q c.application c.state turns 0 cs before.turns → CameIntoRun q d.application d.state (suc (turns - (effects + 1))) drawing.room cs now.turns
+    run_here q cs same r = subst (λ n. CameIntoRun q d.application d.state n drawing.room cs now.turns) one_less (drawing.run q cs same r)
 
-    ended : CanBe d.application (InRun (turns - (effects + 1)) drawing.room d.state) 0 → (later : Path) → later.turns ≡ now.turns ++ 0 ∷ [] → later.sent ≡ now.sent → later.durable ≡ now.durable → Drew c before (Run turns ∷ []) d later
-    ended can later turns_are sent_is durable_is = record {
+    ended : CanBe d.application (InRun (turns - (effects + 1)) drawing.room d.state) 0 → (later : Path) → later.turns ≡ now.turns ++ 0 ∷ [] → later.durable ≡ now.durable → Drew c before (Run turns ∷ []) d later
+    ended can later turns_are durable_is = record {
       application = drawing.application;
       beside = record { facts = drawing.beside.facts; durable = durable_is ∙ drawing.beside.durable };
       came = λ q cs same r.
-          subst (λ (l : List ℕ × List ℕ). CameToCommands q d.application d.state cs l.0 l.1) (λ i. (sym turns_are i, sym sent_is i))
-          (came_rest q d.application (turns - (effects + 1)) drawing.room cs d.state now.turns now.sent (same ∙ sym drawing.application) (run_here q cs same (came_into q c.application turns cs c.state before.turns before.sent r)) can);
+          subst (CameToCommands q d.application d.state cs) (sym turns_are)
+          (came_rest q d.application (turns - (effects + 1)) drawing.room cs d.state now.turns (same ∙ sym drawing.application) (run_here q cs same (came_into q c.application turns cs c.state before.turns r)) can);
     }
 
     -- all tasks rest
-    pub drawing_rests : All (λ rests. rests ≡ true) resting → (later : Path) → later.turns ≡ now.turns ++ 0 ∷ [] → later.sent ≡ now.sent → later.durable ≡ now.durable → Drew c before (Run turns ∷ []) d later
+    pub drawing_rests : All (λ rests. rests ≡ true) resting → (later : Path) → later.turns ≡ now.turns ++ 0 ∷ [] → later.durable ≡ now.durable → Drew c before (Run turns ∷ []) d later
     drawing_rests all = ended (inl (all_rest d.application d.state resting drawing.rest drawing.tasks all))
 
     -- the turns are spent
-    pub drawing_spent : turns ≤ made → (later : Path) → later.turns ≡ now.turns ++ 0 ∷ [] → later.sent ≡ now.sent → later.durable ≡ now.durable → Drew c before (Run turns ∷ []) d later
+    pub drawing_spent : turns ≤ made → (later : Path) → later.turns ≡ now.turns ++ 0 ∷ [] → later.durable ≡ now.durable → Drew c before (Run turns ∷ []) d later
     drawing_spent over = ended (inr (omega (arith, lt, over, drawing.count, few_here)))
 
     -- a turn had an effect
-    pub drawing_effect : (task : ℕ) → IsAwake resting task → (next : CoreValue) (did : Did) → Tried d task next (Some did) → next.steps ≡ d.steps + 1 → (later : Path) → later.turns ≡ now.turns ++ task ∷ [] → later.sent ≡ now.sent ++ bytes_of did.acts → later.durable ≡ durable_of next
+    pub drawing_effect : (task : ℕ) → IsAwake resting task → (next : CoreValue) (did : Did) → Tried d task next (Some did) → next.steps ≡ d.steps + 1 → (later : Path) → later.turns ≡ now.turns ++ task ∷ [] → later.durable ≡ durable_of next
         → (tasks : ℕ) → tasks ≡ c.application.generation.limits.tasks → (others : List Bool) → others ≡ replicate tasks false → Drawing c next before later turns (made + 1) (effects + 1) others
-    drawing_effect task awake next did tried one later turns_are sent_is durable_is tasks tasks_are others none = record {
+    drawing_effect task awake next did tried one later turns_are durable_is tasks tasks_are others none = record {
       application = tried.application ∙ drawing.application;
       beside = record { facts = tried.facts; durable = durable_is };
       steps = omega (arith, one, drawing.steps);
@@ -259,8 +215,8 @@ module _ (c d : CoreValue) (before now : Path) (turns made effects : ℕ) (resti
       room = drawing.room + idle_count d.application d.state;
       count = omega (arith, few_here, drawing.count);
       run = λ q cs same r.
-          subst (λ (l : List ℕ). CameIntoRun q next.application next.state (turns - (effects + 1)) (drawing.room + idle_count d.application d.state) cs l later.sent) (sym turns_are)
-          (came_turn q d.application (turns - (effects + 1)) drawing.room cs d.state now.turns now.sent (same ∙ sym drawing.application) (run_here q cs same r) task turn later.sent said next.application tried.application next.state after (drawing.room + idle_count d.application d.state) refl);
+          subst (λ (l : List ℕ). CameIntoRun q next.application next.state (turns - (effects + 1)) (drawing.room + idle_count d.application d.state) cs l) (sym turns_are)
+          (came_turn q d.application (turns - (effects + 1)) drawing.room cs d.state now.turns (same ∙ sym drawing.application) (run_here q cs same r) task turn next.application tried.application next.state after (drawing.room + idle_count d.application d.state) refl);
     }
       where
         turn : IsTurn d.application d.state task
@@ -268,9 +224,6 @@ module _ (c d : CoreValue) (before now : Path) (turns made effects : ℕ) (resti
 
         after : next.state ≡ (turn_of d.application d.state task).after
         after = ap (λ (t : Turned). t.after) tried.exact.1
-
-        said : later.sent ≡ now.sent ++ bytes_of (turn_of d.application d.state task).acts
-        said = sent_is ∙ ap (λ (t : Turned). now.sent ++ bytes_of t.acts) tried.exact.1
 
   -- a turn had none
   pub drawing_none : (task : ℕ) → IsAwake resting task → (next : CoreValue) → Tried d task next None → next.steps ≡ d.steps + 1 → (others : List Bool) → others ≡ slice_set resting (task - 1) true → Drawing c next before now turns (made + 1) effects others
@@ -285,7 +238,7 @@ module _ (c d : CoreValue) (before now : Path) (turns made effects : ℕ) (resti
     count =
         let more : rests_in others ≡ suc (rests_in resting) = ap rests_in are ∙ rests_set resting (task - 1) (let low = awake.least in let high = awake.most in omega (arith, low, high)) awake.awake in
         omega (arith, more, drawing.count);
-    run = λ q cs same r. moved (λ a u. CameIntoRun q a u (turns - effects) drawing.room cs now.turns now.sent) tried.application tried.exact.1 (drawing.run q cs same r);
+    run = λ q cs same r. moved (λ a u. CameIntoRun q a u (turns - effects) drawing.room cs now.turns) tried.application tried.exact.1 (drawing.run q cs same r);
   }
     where
       rest : Rest d.application d.state (slice_set resting (task - 1) true)
@@ -310,8 +263,8 @@ command_drew c before command d after no_run did = record {
   application = did.application;
   beside = did.beside;
   came = λ q cs same r.
-      subst (λ (l : List ℕ). CameToCommands q d.application d.state cs l after.sent) (sym did.turns)
-      (came_command q c.application command cs c.state before.turns before.sent r no_run after.sent did.sent d.application did.application d.state did.state);
+      subst (CameToCommands q d.application d.state cs) (sym did.turns)
+      (came_command q c.application command cs c.state before.turns r no_run d.application did.application d.state did.state);
 }
 
 pub run_drew : (c : CoreValue) (before : Path) (command : Command) (turns : ℕ) (d : CoreValue) (after : Path) → command ≡ Run turns → Drew c before (Run turns ∷ []) d after → Drew c before (command ∷ []) d after
@@ -348,32 +301,18 @@ module _ (c d : CoreValue) (before now : Path) (commands : List Command) (at : �
         beside = drew.beside;
         came = λ q cs same r.
             let front : take (at + 1) commands ++ cs ≡ take at commands ++ command ∷ cs = ap (λ (l : List Command). l ++ cs) one_more ∙ append_assoc (take at commands) (command ∷ []) cs in
-            drew.came q cs (same ∙ sym drawn.drew.application) (drawn.drew.came q (command ∷ cs) same (subst (λ (l : List Command). CameToCommands q c.application c.state l before.turns before.sent) front r));
+            drew.came q cs (same ∙ sym drawn.drew.application) (drawn.drew.came q (command ∷ cs) same (subst (λ (l : List Command). CameToCommands q c.application c.state l before.turns) front r));
       };
       steps = omega (arith, steps, tries_here commands at command is lt, drawn.steps);
     }
 
 -- ---- from the start to the end
 
-pub came_start : (q : Script) → CameToCommands q q.app q.start q.commands [] []
-came_start q = record {
-  can = λ before t behind e. absurd (not_none before t behind e);
-  spot = λ o. refl;
-  tells = record { steps = []; are = λ o. refl; state = sym (no_acts_after q.start); bytes = no_bytes [] };
+pub came_start : (q : Script) → CameToCommands q q.app q.start q.commands []
+came_start q = record { can = λ before t behind e. absurd (not_none before t behind e); spot = λ o. refl }
+
+pub ended_walk : (q : Script) (app : Application) (s : State) (taken : List ℕ) → CameToCommands q app s [] taken → IsWalk q.app q.commands q.start taken
+ended_walk q app s taken came = record {
+  can = came.can;
+  end = subst IsEnd (sym (ap (stand q.app q.commands q.start) (sym (append-nil taken)) ∙ came.spot [] ∙ stand_ends app s [])) tt;
 }
-
-module _ (q : Script) (app : Application) (s : State) (taken sent : List ℕ) (came : CameToCommands q app s [] taken sent) where
-  pub ended_walk : IsWalk q.app q.commands q.start taken
-  ended_walk = record {
-    can = came.can;
-    end = subst IsEnd (sym (ap (stand q.app q.commands q.start) (sym (append-nil taken)) ∙ came.spot [] ∙ stand_ends app s [])) tt;
-  }
-
-  steps_are : order_steps q.app q.commands q.start taken ≡ came.tells.steps
-  steps_are = ap (order_steps q.app q.commands q.start) (sym (append-nil taken)) ∙ came.tells.are [] ∙ ap (λ (l : List ScriptStep). came.tells.steps ++ l) (no_steps app s []) ∙ append-nil came.tells.steps
-
-  pub ended_outcome : (tables : List ℕ) → tables ≡ listing s.tables → HasOutcome q.app q.commands q.start taken sent tables
-  ended_outcome tables e = record {
-    sent_is = came.tells.bytes ∙ ap (λ (l : List ScriptStep). bytes_of (acts_of l)) (sym steps_are);
-    tables_are = e ∙ ap (λ (u : State). listing u.tables) (came.tells.state ∙ ap (state_after q.start) (sym steps_are));
-  }

@@ -1,18 +1,22 @@
 -- All walks, one after another.
 use Rattle.std.proofs.Common.{◌≡◌, inl, inr, ℕ, List, [], ◌∷◌, ◌++◌, zero, suc, ◌+◌, ◌<◌, ◌≤◌, length, get_or, slice_set, refl, sym, ap, subst, ◌∙◌, arith}
-use Rattle.std.specs.Prelude.{All, Bool, true, false, cond, nat_lt}
+use Rattle.std.specs.Prelude.{All, Bool, true, false, ◌&&◌, cond}
+use Rattle.std.specs.Cmp.{booleans_Decides}
+use Rattle.std.proofs.Math.Bool.{beq}
 use Rattle.std.proofs.lemmas.List.Sums.{sum_by-cons}
+use Rattle.kd_base.specs.ToolsLaws.{both_true}
 use Rattle.kdcs_types.specs.Tables.{TableRows}
 use Rattle.abstract_monitor.specs.declared.command.Command.{Command}
 use Rattle.abstract_monitor.specs.Commands.{started}
 use Rattle.abstract_monitor.specs.State.{Application}
 use Rattle.laws_of_states.specs.ItemsLaws.{IsIn}
 use Rattle.lab_orders.specs.declared.explored.Outcome.{Outcome}
-use Rattle.lab_orders.specs.declared.search.Found.{Found}
-use Rattle.lab_orders.specs.Exploring.{AreDistinct, AreOutcomes, AreSame, IsAdded, IsCounted, IsFirst, IsOther, IsOutcome, IsShown, IsTally, IsThatOf, IsThere, orders_of, shorter}
+use Rattle.lab_orders.specs.declared.performed.Found.{Found}
+use Rattle.lab_orders.specs.Exploring.{AreDistinct, AreOutcomes, AreSame, IsAdded, IsCounted, IsFirst, IsOther, IsOutcome, IsShown, IsTally, IsThatOf, IsThere, is_shorter, orders_of}
 use Rattle.lab_orders.specs.Finding.{IsFound}
-use Rattle.lab_walks.specs.Orders.{HasOutcome}
-use Rattle.lab_orders.specs.Told.{turns_of}
+use Rattle.lab_walks.specs.declared.signs.Signs.{Signs}
+use Rattle.lab_walks.specs.Outcomes.{Result, sent_by}
+use Rattle.lab_orders.specs.Told.{ComesTo, outcome_result}
 use Rattle.lab_walks.specs.Walks.{IsWalk}
 use Rattle.lab_orders.proofs.Told.{told_added}
 
@@ -22,37 +26,62 @@ pub record Added (app : Application) (t : TableRows) (cs : List Command) (old ne
   pub kept : (o : List ℕ) → IsShown app t cs old o → IsShown app t cs new o
   pub there : IsShown app t cs new turns
 
+-- ---- the parts of a result
+
+-- all signs are the same
+pub signs_equal : (x y : Signs) → (beq x.k04 y.k04 && (beq x.k05 y.k05 && (beq x.dump y.dump && (beq x.standstill y.standstill && beq x.spent y.spent)))) ≡ true → x ≡ y
+signs_equal x y e =
+    let a = both_true _ _ e in
+    let b = both_true _ _ a.1 in
+    let c = both_true _ _ b.1 in
+    let d = both_true _ _ c.1 in
+    let k04 = (booleans_Decides x.k04 y.k04).0 a.0 in
+    let k05 = (booleans_Decides x.k05 y.k05).0 b.0 in
+    let dump = (booleans_Decides x.dump y.dump).0 c.0 in
+    let standstill = (booleans_Decides x.standstill y.standstill).0 d.0 in
+    let spent = (booleans_Decides x.spent y.spent).0 d.1 in
+    λ i. record { k04 = k04 i; k05 = k05 i; dump = dump i; standstill = standstill i; spent = spent i }
+
+pub same_that : (o : Outcome) (f : Found) → o.signs ≡ f.signs → o.tables ≡ f.tables → o.lines ≡ f.lines → IsThatOf o f
+same_that o f signs tables lines i = record { lines = lines i; tables = tables i; signs = signs i }
+
+pub that_parts : (o : Outcome) (f : Found) → IsThatOf o f → (o.signs ≡ f.signs) × (o.tables ≡ f.tables) × (o.lines ≡ f.lines)
+that_parts o f same = (ap (λ (r : Result). r.signs) same, ap (λ (r : Result). r.tables) same, ap (λ (r : Result). r.lines) same)
+
 -- ---- one outcome more
 
-same_outcome : (app : Application) (t : TableRows) (cs : List Command) (o : List ℕ) (x y : Outcome) → y.sent ≡ x.sent → y.tables ≡ x.tables → HasOutcome app cs (started app t) o x.sent x.tables → HasOutcome app cs (started app t) o y.sent y.tables
-same_outcome app t cs o x y sent tables h = record { sent_is = sent ∙ h.sent_is; tables_are = tables ∙ h.tables_are }
-
 module _ (app : Application) (t : TableRows) (cs : List Command) (found : Found) (is : IsFound app t cs found) where
-  of_found : (y : Outcome) → IsThatOf y found → HasOutcome app cs (started app t) found.turns y.sent y.tables
-  of_found y same = record { sent_is = same.sent ∙ is.outcome.sent_is; tables_are = same.tables ∙ is.outcome.tables_are }
+  of_found : (y : Outcome) → IsThatOf y found → ComesTo app cs (started app t) y found.turns
+  of_found y same = same ∙ is.result
 
-  outcome_found : (y : Outcome) → IsThatOf y found → y.turns ≡ found.turns → IsOutcome app t cs y
-  outcome_found y same turns = record {
-    walk = subst (IsWalk app cs (started app t)) (sym turns) is.walk;
-    outcome_is = subst (λ (o : List ℕ). HasOutcome app cs (started app t) o y.sent y.tables) (sym turns) (of_found y same);
+  outcome_found : (y : Outcome) → IsFirst y found → IsOutcome app t cs y
+  outcome_found y first = record {
+    walk = subst (IsWalk app cs (started app t)) (sym first.turns) is.walk;
+    sent = first.sent ∙ is.sent ∙ ap (sent_by app cs (started app t)) (sym first.turns);
+    comes = subst (ComesTo app cs (started app t) y) (sym first.turns) (of_found y first.same);
   }
 
   that_of : (x y : Outcome) → IsCounted x y found → IsThatOf y found
-  that_of x y c = record { sent = c.sent ∙ c.same.sent; tables = c.tables ∙ c.same.tables }
+  that_of x y c = c.result ∙ c.same
 
   counted : (x y : Outcome) → IsCounted x y found → IsOutcome app t cs x → IsOutcome app t cs y
   counted x y c h = record {
-    walk = subst (IsWalk app cs (started app t)) (sym c.turns) (walk_of (nat_lt (turns_of found.turns) (turns_of x.turns)));
-    outcome_is = subst (λ (o : List ℕ). HasOutcome app cs (started app t) o y.sent y.tables) (sym c.turns) (comes_of (nat_lt (turns_of found.turns) (turns_of x.turns)));
+    walk = subst (IsWalk app cs (started app t)) (sym c.turns) (walk_of (is_shorter found x));
+    sent = c.sent ∙ sent_of (is_shorter found x) ∙ ap (sent_by app cs (started app t)) (sym c.turns);
+    comes = subst (ComesTo app cs (started app t) y) (sym c.turns) (comes_of (is_shorter found x));
   }
     where
       walk_of : (b : Bool) → IsWalk app cs (started app t) (cond b found.turns x.turns)
       walk_of true = is.walk
       walk_of false = h.walk
 
-      comes_of : (b : Bool) → HasOutcome app cs (started app t) (cond b found.turns x.turns) y.sent y.tables
+      sent_of : (b : Bool) → cond b found.sent x.sent ≡ sent_by app cs (started app t) (cond b found.turns x.turns)
+      sent_of true = is.sent
+      sent_of false = h.sent
+
+      comes_of : (b : Bool) → ComesTo app cs (started app t) y (cond b found.turns x.turns)
       comes_of true = of_found y (that_of x y c)
-      comes_of false = same_outcome app t cs x.turns x y c.sent c.tables h.outcome_is
+      comes_of false = c.result ∙ h.comes
 
   added_more : (x y : Outcome) (xs ys : List Outcome) → y ≡ x → IsOutcome app t cs x → Added app t cs xs ys found.turns → Added app t cs (x ∷ xs) (y ∷ ys) found.turns
   added_more x y xs ys same here rest = record {
@@ -62,12 +91,12 @@ module _ (app : Application) (t : TableRows) (cs : List Command) (found : Found)
   }
     where
       by : (o : List ℕ) → IsShown app t cs (x ∷ xs) o → IsShown app t cs (y ∷ ys) o
-      by o (inl here) = inl (subst (λ (z : Outcome). HasOutcome app cs (started app t) o z.sent z.tables) (sym same) here)
+      by o (inl here) = inl (ap outcome_result same ∙ here)
       by o (inr later) = inr (rest.kept o later)
 
   pub added : (old new : List Outcome) → IsAdded old new found → AreOutcomes app t cs old → Added app t cs old new found.turns
   added [] [] h each = absurd h
-  added [] (y ∷ []) h each = record { each = (outcome_found y h.same h.turns, tt); kept = λ o shown. absurd shown; there = inl (of_found y h.same) }
+  added [] (y ∷ []) h each = record { each = (outcome_found y h, tt); kept = λ o shown. absurd shown; there = inl (of_found y h.same) }
   added [] (y ∷ z ∷ zs) h each = absurd h
   added (x ∷ xs) [] h each = absurd h
   added (x ∷ xs) (y ∷ ys) (inl h) each = record {
@@ -77,36 +106,33 @@ module _ (app : Application) (t : TableRows) (cs : List Command) (found : Found)
   }
     where
       by : (o : List ℕ) → IsShown app t cs (x ∷ xs) o → IsShown app t cs (y ∷ ys) o
-      by o (inl here) = inl (same_outcome app t cs o x y h.0.sent h.0.tables here)
+      by o (inl here) = inl (h.0.result ∙ here)
       by o (inr later) = inr (subst (λ (l : List Outcome). IsShown app t cs l o) (sym h.1) later)
   added (x ∷ xs) (y ∷ ys) (inr h) each = added_more x y xs ys h.0 each.0 (added xs ys h.2 each.1)
 
 -- ---- distinct outcomes
 
 other_first : (x y : Outcome) (found : Found) → IsThatOf y found → (IsThatOf x found → ⊥) → AreSame x y → ⊥
-other_first x y found is not same = not (record { sent = same.sent ∙ is.sent; tables = same.tables ∙ is.tables })
+other_first x y found is not same = not (same ∙ is)
 
 other_added : (found : Found) (x : Outcome) (xs ys : List Outcome) → IsAdded xs ys found → (IsThatOf x found → ⊥) → IsOther x xs → IsOther x ys
 other_added found x [] [] h not other = absurd h
 other_added found x [] (y ∷ []) h not other = (other_first x y found h.same not, tt)
 other_added found x [] (y ∷ z ∷ zs) h not other = absurd h
 other_added found x (z ∷ zs) [] h not other = absurd h
-other_added found x (z ∷ zs) (y ∷ ys) (inl h) not other = (other_first x y found (record { sent = h.0.sent ∙ h.0.same.sent; tables = h.0.tables ∙ h.0.same.tables }) not, subst (IsOther x) (sym h.1) other.1)
+other_added found x (z ∷ zs) (y ∷ ys) (inl h) not other = (other_first x y found (h.0.result ∙ h.0.same) not, subst (IsOther x) (sym h.1) other.1)
 other_added found x (z ∷ zs) (y ∷ ys) (inr h) not other = (subst (λ (o : Outcome). AreSame x o → ⊥) (sym h.0) other.0, other_added found x zs ys h.2 not other.1)
 
-other_counted : (x y : Outcome) → y.sent ≡ x.sent → y.tables ≡ x.tables → (zs : List Outcome) → IsOther x zs → IsOther y zs
-other_counted x y sent tables [] other = tt
-other_counted x y sent tables (z ∷ zs) other = (differs, other_counted x y sent tables zs other.1)
-  where
-    differs : AreSame y z → ⊥
-    differs same = other.0 (record { sent = sym sent ∙ same.sent; tables = sym tables ∙ same.tables })
+other_counted : (x y : Outcome) → outcome_result y ≡ outcome_result x → (zs : List Outcome) → IsOther x zs → IsOther y zs
+other_counted x y same [] other = tt
+other_counted x y same (z ∷ zs) other = (λ both. other.0 (sym same ∙ both), other_counted x y same zs other.1)
 
 distinct_added : (found : Found) (old new : List Outcome) → IsAdded old new found → AreDistinct old → AreDistinct new
 distinct_added found [] [] h distinct = absurd h
 distinct_added found [] (y ∷ []) h distinct = (tt, tt)
 distinct_added found [] (y ∷ z ∷ zs) h distinct = absurd h
 distinct_added found (x ∷ xs) [] h distinct = absurd h
-distinct_added found (x ∷ xs) (y ∷ ys) (inl h) distinct = (subst (IsOther y) (sym h.1) (other_counted x y h.0.sent h.0.tables xs distinct.0), subst AreDistinct (sym h.1) distinct.1)
+distinct_added found (x ∷ xs) (y ∷ ys) (inl h) distinct = (subst (IsOther y) (sym h.1) (other_counted x y h.0.result xs distinct.0), subst AreDistinct (sym h.1) distinct.1)
 distinct_added found (x ∷ xs) (y ∷ ys) (inr h) distinct = (subst (λ (o : Outcome). IsOther o ys) (sym h.0) (other_added found x xs ys h.2 h.1 distinct.0), distinct_added found xs ys h.2 distinct.1)
 
 -- ---- each order is counted
@@ -139,7 +165,7 @@ module _ (app : Application) (t : TableRows) (cs : List Command) where
     each = more.each;
     distinct = distinct_added found old new h tally.distinct;
     counted = omega (arith, counted_added found old new h, tally.counted);
-    told = told_added app cs (started app t) found is.outcome t refl walks old new h tally.distinct (λ w there comes. tally.shown w there) tally.told;
+    told = told_added app cs (started app t) found is.result t refl walks old new h tally.distinct (λ w there comes. tally.shown w there) tally.told;
     walks_are = walks_are;
     shown = shown;
   }
@@ -163,12 +189,12 @@ counted_there [] found at h y d counts = absurd h
 counted_there (x ∷ xs) found zero h y d counts = inl (counts x refl h, refl)
 counted_there (x ∷ xs) found (suc at) h y d counts = inr (refl, h.0, counted_there xs found at h.1 y d counts)
 
-pub counted_so : (x here y : Outcome) (found : Found) → x ≡ here → IsThatOf x found → y.sent ≡ here.sent → y.tables ≡ here.tables → y.turns ≡ shorter found.turns here.turns → y.orders ≡ here.orders + 1 → IsCounted x y found
-counted_so x here y found is same sent tables turns orders = record {
+pub counted_so : (x here y : Outcome) (found : Found) → x ≡ here → IsThatOf x found → outcome_result y ≡ outcome_result here → y.turns ≡ cond (is_shorter found here) found.turns here.turns → y.sent ≡ cond (is_shorter found here) found.sent here.sent → y.orders ≡ here.orders + 1 → IsCounted x y found
+counted_so x here y found is same result turns sent orders = record {
   same = same;
-  sent = sent ∙ ap (λ (o : Outcome). o.sent) (sym is);
-  tables = tables ∙ ap (λ (o : Outcome). o.tables) (sym is);
-  turns = turns ∙ ap (λ (o : Outcome). shorter found.turns o.turns) (sym is);
+  result = result ∙ ap outcome_result (sym is);
+  turns = turns ∙ ap (λ (o : Outcome). cond (is_shorter found o) found.turns o.turns) (sym is);
+  sent = sent ∙ ap (λ (o : Outcome). cond (is_shorter found o) found.sent o.sent) (sym is);
   orders = orders ∙ ap (λ (o : Outcome). o.orders + 1) (sym is);
 }
 

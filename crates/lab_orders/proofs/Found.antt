@@ -9,25 +9,23 @@ use Rattle.laws_of_states.specs.Keeping.{IsScriptOf}
 use Rattle.laws_of_states.specs.Suits.{Suits}
 use Rattle.abstract_monitor.specs.declared.command.Command.{Command}
 use Rattle.abstract_monitor.specs.Commands.{started}
-use Rattle.abstract_monitor.specs.Listing.{listing}
 use Rattle.abstract_monitor.specs.State.{Application, State}
 use Rattle.monitor_core.specs.CoreValue.{CoreValue}
 use Rattle.lab_walks.specs.declared.frame.Frame.{Frame}
 use Rattle.lab_orders.specs.declared.path.Path.{Path}
 use Rattle.lab_orders.specs.declared.reach.Place.{Place}
 use Rattle.lab_orders.specs.declared.reach.Place.TheVariants.{Inside, Ended}
-use Rattle.lab_orders.specs.declared.search.Found.{Found}
+use Rattle.lab_orders.specs.declared.performed.Found.{Found}
 use Rattle.lab_orders.specs.declared.search.Seen.{Seen}
 use Rattle.lab_orders.specs.declared.search.Seen.TheVariants as seen
 use Rattle.lab_orders.specs.Drawing.{CameToCommands, Drew}
-use Rattle.lab_orders.specs.Finding.{CanStart, Descended, IsFound, SawIt}
+use Rattle.lab_orders.specs.Finding.{CanStart, Descended, SawIt}
 use Rattle.lab_walks.specs.Frames.{IsAhead}
-use Rattle.lab_walks.specs.Orders.{HasOutcome}
 use Rattle.lab_orders.specs.Searching.{CanGo, Followed, GoesOn, Reached, quest_of, spot_of, state_at}
 use Rattle.lab_walks.specs.Frames.{IsWay, turns_in}
 use Rattle.lab_orders.specs.Walking.{Begun}
 use Rattle.lab_walks.specs.Walks.{IsEnd, IsWalk, stand}
-use Rattle.lab_orders.proofs.Drawing.{came_start, ended_outcome, ended_walk}
+use Rattle.lab_orders.proofs.Drawing.{came_start, ended_walk}
 use Rattle.lab_orders.proofs.Reaching.{goes_start}
 use Rattle.lab_orders.proofs.Searching.{ahead_back, ahead_more, way_walks}
 use Rattle.lab_walks.specs.FramesLaws.{way_more}
@@ -35,26 +33,20 @@ use Rattle.lab_orders.proofs.Steps.{moved}
 
 module _ (app : Application) (t : TableRows) (cs : List Command) (c : CoreValue) (before : Path) (begun : Begun app t c before) where
   -- a way from the start
-  pub reached_from : (frames : List Frame) (d : CoreValue) (after : Path) (place : Place) → Followed c before cs frames d after place → IsWay app cs (started app t) frames → Reached (quest_of app cs t frames) d after.sent place
+  pub reached_from : (frames : List Frame) (d : CoreValue) (after : Path) (place : Place) → Followed c cs frames d after place → IsWay app cs (started app t) frames → Reached (quest_of app cs t frames) d place
   reached_from frames d after place followed way =
       followed.reached (quest_of app cs t frames) (sym begun.application) way
-      (moved (λ a u. GoesOn (quest_of app cs t frames) a u cs before.sent frames) begun.application begun.state
-      (subst (λ (b : List ℕ). GoesOn (quest_of app cs t frames) app (started app t) cs b frames) (sym begun.sent) (goes_start (quest_of app cs t frames))))
+      (moved (λ a u. GoesOn (quest_of app cs t frames) a u cs frames) begun.application begun.state (goes_start (quest_of app cs t frames)))
 
-  -- a walk that was drawn, and what came out
-  pub drawn_found : (d : CoreValue) (after : Path) (found : Found) → found.turns ≡ after.turns → found.sent ≡ after.sent → found.tables ≡ listing d.state.tables → Drew c before cs d after → IsFound app t cs found
-  drawn_found d after found turns sent tables drew =
-      let came : CameToCommands (record { app = app; commands = cs; start = started app t }) d.application d.state [] after.turns after.sent = drew.came (record { app = app; commands = cs; start = started app t }) [] (sym begun.application) start in
-      record {
-        walk = subst (IsWalk app cs (started app t)) (sym turns) (ended_walk _ d.application d.state after.turns after.sent came);
-        outcome = subst (λ (x : List ℕ × List ℕ). HasOutcome app cs (started app t) x.0 x.1 found.tables) (λ i. (sym turns i, sym sent i)) (ended_outcome _ d.application d.state after.turns after.sent came found.tables tables);
-      }
+  -- a walk that was drawn
+  pub drawn_is : (d : CoreValue) (after : Path) → Drew c before cs d after → IsWalk app cs (started app t) after.turns
+  drawn_is d after drew = ended_walk (record { app = app; commands = cs; start = started app t }) d.application d.state after.turns (drew.came (record { app = app; commands = cs; start = started app t }) [] (sym begun.application) start)
     where
-      start : CameToCommands (record { app = app; commands = cs; start = started app t }) c.application c.state (cs ++ []) before.turns before.sent
+      start : CameToCommands (record { app = app; commands = cs; start = started app t }) c.application c.state (cs ++ []) before.turns
       start =
-          subst (λ (l : List Command). CameToCommands (record { app = app; commands = cs; start = started app t }) c.application c.state l before.turns before.sent) (sym (append-nil cs))
-          (moved (λ a u. CameToCommands (record { app = app; commands = cs; start = started app t }) a u cs before.turns before.sent) begun.application begun.state
-          (subst (λ (x : List ℕ × List ℕ). CameToCommands (record { app = app; commands = cs; start = started app t }) app (started app t) cs x.0 x.1) (λ i. (sym begun.turns i, sym begun.sent i)) (came_start (record { app = app; commands = cs; start = started app t }))))
+          subst (λ (l : List Command). CameToCommands (record { app = app; commands = cs; start = started app t }) c.application c.state l before.turns) (sym (append-nil cs))
+          (moved (λ a u. CameToCommands (record { app = app; commands = cs; start = started app t }) a u cs before.turns) begun.application begun.state
+          (subst (CameToCommands (record { app = app; commands = cs; start = started app t }) app (started app t) cs) (sym begun.turns) (came_start (record { app = app; commands = cs; start = started app t }))))
 
 -- ---- again
 
@@ -75,18 +67,14 @@ module _ (app : Application) (t : TableRows) (cs : List Command) (g : Generated)
   pub again_way : (frames : List Frame) → IsWay app cs (started app t) frames → IsWay (applied g units) cs (started (applied g units) t) frames
   again_way frames way = subst (λ (a : Application). IsWay a cs (started a t) frames) same way
 
-  pub again_state : (frames : List Frame) (d : CoreValue) (sent : List ℕ) (place : Place) → Reached (quest_of (applied g units) cs t frames) d sent place → state_at (stand app cs (started app t) (turns_in frames)) ≡ d.state
-  again_state frames d sent place reached = ap (λ (a : Application). state_at (stand a cs (started a t) (turns_in frames))) same ∙ ap state_at reached.spot ∙ state_there place d.state
+  pub again_state : (frames : List Frame) (d : CoreValue) (place : Place) → Reached (quest_of (applied g units) cs t frames) d place → state_at (stand app cs (started app t) (turns_in frames)) ≡ d.state
+  again_state frames d place reached = ap (λ (a : Application). state_at (stand a cs (started a t) (turns_in frames))) same ∙ ap state_at reached ∙ state_there place d.state
 
 -- ---- an end
 
-module _ (app : Application) (t : TableRows) (cs : List Command) (frames : List Frame) (d : CoreValue) (sent : List ℕ) (reached : Reached (quest_of app cs t frames) d sent Ended) where
-  pub saw_end : (found : Found) → found.turns ≡ turns_in frames → found.sent ≡ sent → found.tables ≡ listing d.state.tables → SawIt app cs t frames (seen.Ended found)
-  saw_end found turns said tables = (
-    subst IsEnd (sym reached.spot) tt,
-    turns,
-    record { sent_is = said ∙ reached.said.0; tables_are = tables ∙ ap (λ (u : State). listing u.tables) reached.said.1 },
-  )
+-- the way to an end is a walk
+pub reached_walk : (app : Application) (t : TableRows) (cs : List Command) (frames : List Frame) (d : CoreValue) → IsWay app cs (started app t) frames → Reached (quest_of app cs t frames) d Ended → IsEnd (stand app cs (started app t) (turns_in frames)) × IsWalk app cs (started app t) (turns_in frames)
+reached_walk app t cs frames d way reached = let end = subst IsEnd (sym reached) tt in (end, way_walks app cs (started app t) frames way end)
 
 -- ---- down to an end
 
@@ -96,10 +84,7 @@ module _ (app : Application) (t : TableRows) (cs : List Command) (old frames : L
     way = way;
     end = saw.0;
     turns = saw.1;
-    found_is = record {
-      walk = subst (IsWalk app cs (started app t)) (sym saw.1) (way_walks app cs (started app t) frames way saw.0);
-      outcome = subst (λ (o : List ℕ). HasOutcome app cs (started app t) o found.sent found.tables) (sym saw.1) saw.2;
-    };
+    found_is = saw.2;
     kept = kept;
     only = only;
   }

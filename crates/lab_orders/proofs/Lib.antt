@@ -1,11 +1,15 @@
+pub mod Asking
 pub mod Commands
 pub mod Covering
 pub mod Drawing
 pub mod Effects
+pub mod Ended
 pub mod Exploring
 pub mod Finding
 pub mod Found
 pub mod Ordered
+pub mod Performing
+pub mod Placing
 pub mod Reaching
 pub mod Rotating
 pub mod Scripts

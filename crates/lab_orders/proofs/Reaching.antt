@@ -6,10 +6,8 @@ use Rattle.application_types.specs.Statements.{IsWithin}
 use Rattle.abstract_monitor.specs.CommandsOf.{IsCommandOf}
 use Rattle.abstract_monitor.specs.declared.command.Command.{Command}
 use Rattle.abstract_monitor.specs.declared.command.Command.TheVariants.{Run, Turn}
-use Rattle.abstract_monitor.specs.Bytes.{Bytes}
-use Rattle.abstract_monitor.specs.Commands.{ScriptStep, acts_of, command_of, state_after, turned_step}
+use Rattle.abstract_monitor.specs.Commands.{command_of}
 use Rattle.abstract_monitor.specs.State.{Application, State}
-use Rattle.abstract_monitor.specs.Trace.{bytes_of, history}
 use Rattle.abstract_monitor.specs.Turns.{turn_of}
 use Rattle.laws_of_states.specs.Keeping.{IsScriptOf}
 use Rattle.monitor_core.specs.CoreValue.{CoreValue}
@@ -17,13 +15,12 @@ use Rattle.lab_walks.specs.declared.frame.Frame.{Frame}
 use Rattle.lab_orders.specs.declared.path.Path.{Path}
 use Rattle.lab_orders.specs.declared.reach.Place.{Place}
 use Rattle.lab_orders.specs.declared.reach.Place.TheVariants.{Inside, Ended}
-use Rattle.lab_walks.specs.Orders.{order_steps, turned_run, turned_script}
 use Rattle.lab_orders.specs.Searching.{Followed, GoesInRun, GoesOn, IsTaken, Quest, Reached, WentCommand, WentOrEnds, WentRun, place_of}
 use Rattle.lab_walks.specs.Frames.{IsFrame, IsWay, Opens, turn_in, turns_in}
 use Rattle.lab_orders.specs.Walking.{DidCommand, IsBeside, IsNoRun, tries_of}
 use Rattle.lab_walks.specs.Walks.{AtEnd, CanBe, InRun, Spot, idle_count, stand}
 use Rattle.lab_orders.proofs.Commands.{name_here, tries_here, here_and_behind}
-use Rattle.lab_orders.proofs.Steps.{after_one, bytes_both, command_steps, moved, no_acts_after, no_steps, over_steps, rest_steps, run_steps, stand_begins, stand_behind, stand_ends, stand_none, stand_over, stand_rest, stand_turn, turn_steps}
+use Rattle.lab_orders.proofs.Steps.{moved, stand_begins, stand_behind, stand_ends, stand_none, stand_over, stand_rest, stand_turn}
 
 pub turns_both : (xs ys : List Frame) → turns_in (xs ++ ys) ≡ turns_in xs ++ turns_in ys
 turns_both [] ys = refl
@@ -32,39 +29,26 @@ turns_both (x ∷ xs) ys = ap (λ (l : List ℕ). turn_in x ∷ l) (turns_both x
 turns_more : (done : List Frame) (f : Frame) (o : List ℕ) → turns_in (done ++ f ∷ []) ++ o ≡ turns_in done ++ turn_in f ∷ o
 turns_more done f o = ap (λ (l : List ℕ). l ++ o) (turns_both done (f ∷ [])) ∙ append_assoc (turns_in done) (turn_in f ∷ []) o
 
-no_bytes_yet : bytes_of (acts_of []) ≡ []
-unfolding bytes_of
-no_bytes_yet = refl
-
--- what is sent by one step and those behind it
-said_more : (sent sent' : Bytes) (d : ScriptStep) (ds : List ScriptStep) → sent' ≡ sent ++ bytes_of d.acts → sent' ++ bytes_of (acts_of ds) ≡ sent ++ bytes_of (acts_of (d ∷ ds))
-said_more sent sent' d ds e =
-    ap (λ (b : Bytes). b ++ bytes_of (acts_of ds)) e
-    ∙ append_assoc sent (bytes_of d.acts) (bytes_of (acts_of ds))
-    ∙ ap (λ (b : Bytes). sent ++ b) (sym (bytes_both d.acts (acts_of ds)))
-
 -- ---- in a RUN
 
-module _ (q : Quest) (app : Application) (n room : ℕ) (cs : List Command) (s : State) (sent : Bytes) where
+module _ (q : Quest) (app : Application) (n room : ℕ) (cs : List Command) (s : State) where
   -- no turn is left
-  pub run_over : (rest : List Frame) → GoesInRun q app s 0 room cs sent rest → GoesOn q app s cs sent rest
+  pub run_over : (rest : List Frame) → GoesInRun q app s 0 room cs rest → GoesOn q app s cs rest
   run_over rest g = record {
     done = g.done;
     split = g.split;
     spot = λ o. g.spot o ∙ stand_over app s (stand app cs) room o;
-    bytes = ap (λ (l : List ScriptStep). sent ++ bytes_of (acts_of l)) (sym (over_steps app s (turned_script cs) (turns_in rest))) ∙ g.bytes;
-    state = ap (state_after s) (sym (over_steps app s (turned_script cs) (turns_in rest))) ∙ g.state;
   }
 
   -- the turns end in it
-  pub run_stands : (rest : List Frame) → rest ≡ [] → GoesInRun q app s (suc n) room cs sent rest → place_of q ≡ InRun n room s
+  pub run_stands : (rest : List Frame) → rest ≡ [] → GoesInRun q app s (suc n) room cs rest → place_of q ≡ InRun n room s
   run_stands rest none g =
       ap (λ (l : List Frame). stand q.app q.commands q.start (turns_in l)) (g.split ∙ ap (λ (l : List Frame). g.done ++ l) none)
       ∙ ap (stand q.app q.commands q.start) (turns_both g.done [])
       ∙ g.spot []
       ∙ stand_none app s (stand app cs) room n
 
-  module _ (f : Frame) (rest behind : List Frame) (is : rest ≡ f ∷ behind) (g : GoesInRun q app s (suc n) room cs sent rest) where
+  module _ (f : Frame) (rest behind : List Frame) (is : rest ≡ f ∷ behind) (g : GoesInRun q app s (suc n) room cs rest) where
     split_here : q.frames ≡ g.done ++ f ∷ behind
     split_here = g.split ∙ ap (λ (l : List Frame). g.done ++ l) is
 
@@ -81,7 +65,7 @@ module _ (q : Quest) (app : Application) (n room : ℕ) (cs : List Command) (s :
         opens.idle ∙ ap (λ (a : Application). idle_count a s) same
 
     -- 0 ends it
-    pub run_rests : turn_in f ≡ 0 → GoesOn q app s cs sent behind
+    pub run_rests : turn_in f ≡ 0 → GoesOn q app s cs behind
     run_rests zero_is = record {
       done = g.done ++ f ∷ [];
       split = split_more;
@@ -89,45 +73,26 @@ module _ (q : Quest) (app : Application) (n room : ℕ) (cs : List Command) (s :
           ap (stand q.app q.commands q.start) (turns_more g.done f o ∙ ap (λ t. turns_in g.done ++ t ∷ o) zero_is)
           ∙ g.spot (0 ∷ o)
           ∙ stand_rest app s (stand app cs) room n o;
-      bytes = ap (λ (l : List ScriptStep). sent ++ bytes_of (acts_of l)) (sym steps) ∙ g.bytes;
-      state = ap (state_after s) (sym steps) ∙ g.state;
     }
-      where
-        steps : history app s (turned_run (suc n) (turned_script cs) (turns_in rest)) ≡ history app s (turned_script cs (turns_in behind))
-        steps =
-            ap (λ (l : List Frame). history app s (turned_run (suc n) (turned_script cs) (turns_in l))) is
-            ∙ ap (λ t. history app s (turned_run (suc n) (turned_script cs) (t ∷ turns_in behind))) zero_is
-            ∙ rest_steps app s n (turned_script cs) (turns_in behind)
 
     -- a turn of a task
-    run_turn : (t : ℕ) → turn_in f ≡ suc t → (sent' : Bytes) → sent' ≡ sent ++ bytes_of (turn_of app s (suc t)).acts → GoesInRun q app (turn_of app s (suc t)).after n (room + idle_count app s) cs sent' behind
-    run_turn t turn sent' said = record {
+    run_turn : (t : ℕ) → turn_in f ≡ suc t → GoesInRun q app (turn_of app s (suc t)).after n (room + idle_count app s) cs behind
+    run_turn t turn = record {
       done = g.done ++ f ∷ [];
       split = split_more;
       spot = λ o.
           ap (stand q.app q.commands q.start) (turns_more g.done f o ∙ ap (λ u. turns_in g.done ++ u ∷ o) turn)
           ∙ g.spot (suc t ∷ o)
           ∙ stand_turn app s (stand app cs) room n t o;
-      bytes =
-          said_more sent sent' (turned_step (turn_of app s (suc t))) (history app (turn_of app s (suc t)).after (turned_run n (turned_script cs) (turns_in behind))) said
-          ∙ ap (λ (l : List ScriptStep). sent ++ bytes_of (acts_of l)) (sym steps)
-          ∙ g.bytes;
-      state = sym (after_one s (turned_step (turn_of app s (suc t))) _) ∙ ap (state_after s) (sym steps) ∙ g.state;
     }
-      where
-        steps : history app s (turned_run (suc n) (turned_script cs) (turns_in rest)) ≡ turned_step (turn_of app s (suc t)) ∷ history app (turn_of app s (suc t)).after (turned_run n (turned_script cs) (turns_in behind))
-        steps =
-            ap (λ (l : List Frame). history app s (turned_run (suc n) (turned_script cs) (turns_in l))) is
-            ∙ ap (λ u. history app s (turned_run (suc n) (turned_script cs) (u ∷ turns_in behind))) turn
-            ∙ turn_steps app s n (turned_script cs) t (turns_in behind)
 
-    pub run_turns : (t : ℕ) → turn_in f ≡ t → (t ≡ 0 → ⊥) → (sent' : Bytes) → sent' ≡ sent ++ bytes_of (command_of app s (Turn t)).acts → (app' : Application) → app' ≡ app → (s' : State) → s' ≡ (command_of app s (Turn t)).after
-        → (room' : ℕ) → room' ≡ room + idle_count app s → GoesInRun q app' s' n room' cs sent' behind
+    pub run_turns : (t : ℕ) → turn_in f ≡ t → (t ≡ 0 → ⊥) → (app' : Application) → app' ≡ app → (s' : State) → s' ≡ (command_of app s (Turn t)).after
+        → (room' : ℕ) → room' ≡ room + idle_count app s → GoesInRun q app' s' n room' cs behind
     unfolding command_of
-    run_turns zero turn ne sent' said app' same s' state room' room_is = absurd (ne refl)
-    run_turns (suc t) turn ne sent' said app' same s' state room' room_is =
-        subst (λ r. GoesInRun q app' s' n r cs sent' behind) (sym room_is)
-        (moved (λ a u. GoesInRun q a u n (room + idle_count app s) cs sent' behind) same state (run_turn t turn sent' said))
+    run_turns zero turn ne app' same s' state room' room_is = absurd (ne refl)
+    run_turns (suc t) turn ne app' same s' state room' room_is =
+        subst (λ r. GoesInRun q app' s' n r cs behind) (sym room_is)
+        (moved (λ a u. GoesInRun q a u n (room + idle_count app s) cs behind) same state (run_turn t turn))
 
 -- a turn that is taken and not 0 is that of a task
 pub one_to_tasks : (app later : Application) → later ≡ app → (f : Frame) (t : ℕ) → t ≡ turn_in f → (t ≡ 0 → ⊥) → IsTaken app f → IsWithin 1 later.generation.limits.tasks t
@@ -144,7 +109,7 @@ pub record Running (c d : CoreValue) (before now : Path) (turns made room : ℕ)
   pub steps : d.steps ≤ c.steps + made
   pub taken : All (IsTaken c.application) rest
   pub room_is : room ≤ 65535 * made
-  pub run : (q : Quest) (cs : List Command) → q.app ≡ c.application → IsWay q.app q.commands q.start q.frames → GoesInRun q c.application c.state turns 0 cs before.sent frames → GoesInRun q d.application d.state (turns - made) room cs now.sent rest
+  pub run : (q : Quest) (cs : List Command) → q.app ≡ c.application → IsWay q.app q.commands q.start q.frames → GoesInRun q c.application c.state turns 0 cs frames → GoesInRun q d.application d.state (turns - made) room cs rest
 
 pub running_start : (c : CoreValue) (before : Path) (turns : ℕ) (frames : List Frame) → IsBeside c before → All (IsTaken c.application) frames → Running c c before before turns 0 0 frames frames
 running_start c before turns frames beside taken = record {
@@ -153,35 +118,35 @@ running_start c before turns frames beside taken = record {
   steps = omega arith;
   taken = taken;
   room_is = omega arith;
-  run = λ q cs same way g. let all : turns ≡ turns - 0 = omega arith in subst (λ n. GoesInRun q c.application c.state n 0 cs before.sent frames) all g;
+  run = λ q cs same way g. let all : turns ≡ turns - 0 = omega arith in subst (λ n. GoesInRun q c.application c.state n 0 cs frames) all g;
 }
 
 module _ (c d : CoreValue) (before now : Path) (turns made room : ℕ) (frames rest : List Frame) (running : Running c d before now turns made room frames rest) where
-  pub running_over : turns ≤ made → WentRun c before turns frames d now rest None
+  pub running_over : turns ≤ made → WentRun c turns frames d now rest None
   running_over over = record {
     application = running.application;
     beside = running.beside;
     few = tt;
     went = λ q cs same way g.
         let none : turns - made ≡ 0 = omega (arith, over) in
-        run_over q d.application 0 room cs d.state now.sent rest (subst (λ n. GoesInRun q d.application d.state n room cs now.sent rest) none (running.run q cs same way g));
+        run_over q d.application 0 room cs d.state rest (subst (λ n. GoesInRun q d.application d.state n room cs rest) none (running.run q cs same way g));
   }
 
   module _ (lt : made < turns) where
     one_less : turns - made ≡ suc (turns - (made + 1))
     one_less = omega (arith, lt)
 
-    run_here : (q : Quest) (cs : List Command) → q.app ≡ c.application → IsWay q.app q.commands q.start q.frames → GoesInRun q c.application c.state turns 0 cs before.sent frames → GoesInRun q d.application d.state (suc (turns - (made + 1))) room cs now.sent rest
-    run_here q cs same way g = subst (λ n. GoesInRun q d.application d.state n room cs now.sent rest) one_less (running.run q cs same way g)
+    run_here : (q : Quest) (cs : List Command) → q.app ≡ c.application → IsWay q.app q.commands q.start q.frames → GoesInRun q c.application c.state turns 0 cs frames → GoesInRun q d.application d.state (suc (turns - (made + 1))) room cs rest
+    run_here q cs same way g = subst (λ n. GoesInRun q d.application d.state n room cs rest) one_less (running.run q cs same way g)
 
-    pub running_stops : rest ≡ [] → (left : ℕ) → left ≡ turns - made - 1 → turns ≤ 10 ^ 14 → WentRun c before turns frames d now rest (Some (Inside left room))
+    pub running_stops : rest ≡ [] → (left : ℕ) → left ≡ turns - made - 1 → turns ≤ 10 ^ 14 → WentRun c turns frames d now rest (Some (Inside left room))
     running_stops none left left_is many = record {
       application = running.application;
       beside = running.beside;
       few = omega (arith, running.room_is, lt, many);
       went = λ q cs same way g.
           let same_left : turns - (made + 1) ≡ left = omega (arith, left_is, lt) in
-          run_stands q d.application (turns - (made + 1)) room cs d.state now.sent rest none (run_here q cs same way g)
+          run_stands q d.application (turns - (made + 1)) room cs d.state rest none (run_here q cs same way g)
           ∙ ap (λ n. InRun n room d.state) same_left;
     }
 
@@ -192,14 +157,12 @@ module _ (c d : CoreValue) (before now : Path) (turns made room : ℕ) (frames r
       pub taken_behind : All (IsTaken c.application) behind
       taken_behind = λ k e less. (subst (All (IsTaken c.application)) is running.taken) (suc k) e (omega (arith, less))
 
-      pub running_rests : turn_in f ≡ 0 → (later : Path) → later.sent ≡ now.sent → later.durable ≡ now.durable → WentRun c before turns frames d later behind None
-      running_rests zero_is later sent durable = record {
+      pub running_rests : turn_in f ≡ 0 → WentRun c turns frames d now behind None
+      running_rests zero_is = record {
         application = running.application;
-        beside = record { facts = running.beside.facts; durable = durable ∙ running.beside.durable };
+        beside = running.beside;
         few = tt;
-        went = λ q cs same way g.
-            subst (λ (b : Bytes). GoesOn q d.application d.state cs b behind) (sym sent)
-            (run_rests q d.application (turns - (made + 1)) room cs d.state now.sent f rest behind is (run_here q cs same way g) zero_is);
+        went = λ q cs same way g. run_rests q d.application (turns - (made + 1)) room cs d.state f rest behind is (run_here q cs same way g) zero_is;
       }
 
       pub running_more : (t : ℕ) → t ≡ turn_in f → (t ≡ 0 → ⊥) → (next : CoreValue) (later : Path) → DidCommand d now (Turn t) next later → next.steps ≡ d.steps + 1 → (room' : ℕ) → room' ≡ room + f.idle → f.idle ≤ 65535
@@ -212,44 +175,37 @@ module _ (c d : CoreValue) (before now : Path) (turns made room : ℕ) (frames r
         room_is = omega (arith, room_is, few, running.room_is);
         run = λ q cs same way g.
             let here = run_here q cs same way g in
-            run_turns q d.application (turns - (made + 1)) room cs d.state now.sent f rest behind is here t (sym turn) ne later.sent did.sent next.application did.application next.state did.state room'
-            (room_is ∙ ap (λ n. room + n) (idle_here q d.application (turns - (made + 1)) room cs d.state now.sent f rest behind is here (same ∙ sym running.application) way));
+            run_turns q d.application (turns - (made + 1)) room cs d.state f rest behind is here t (sym turn) ne next.application did.application next.state did.state room'
+            (room_is ∙ ap (λ n. room + n) (idle_here q d.application (turns - (made + 1)) room cs d.state f rest behind is here (same ∙ sym running.application) way));
       }
 
 -- ---- a command
 
-pub command_went : (c : CoreValue) (before : Path) (command : Command) (rest : List Frame) (d : CoreValue) (after : Path) → IsNoRun command → DidCommand c before command d after → WentCommand c before command rest d after rest None
+pub command_went : (c : CoreValue) (before : Path) (command : Command) (rest : List Frame) (d : CoreValue) (after : Path) → IsNoRun command → DidCommand c before command d after → WentCommand c command rest d after rest None
 command_went c before command rest d after no_run did = record {
   application = did.application;
   beside = did.beside;
   few = tt;
-  went = λ q cs same way g. moved (λ a u. GoesOn q a u cs after.sent rest) did.application did.state (record {
+  went = λ q cs same way g. moved (λ a u. GoesOn q a u cs rest) did.application did.state (record {
     done = g.done;
     split = g.split;
     spot = λ o. g.spot o ∙ stand_behind c.application command cs c.state no_run o;
-    bytes =
-        said_more before.sent after.sent (command_of c.application c.state command) (order_steps c.application cs (command_of c.application c.state command).after (turns_in rest)) did.sent
-        ∙ ap (λ (l : List ScriptStep). before.sent ++ bytes_of (acts_of l)) (sym (command_steps c.application command cs c.state no_run (turns_in rest)))
-        ∙ g.bytes;
-    state = sym (after_one c.state (command_of c.application c.state command) _) ∙ ap (state_after c.state) (sym (command_steps c.application command cs c.state no_run (turns_in rest))) ∙ g.state;
   });
 }
 
-pub run_went : (c : CoreValue) (before : Path) (command : Command) (turns : ℕ) (rest : List Frame) (d : CoreValue) (after : Path) (behind : List Frame) (place : Option Place) → command ≡ Run turns → WentRun c before turns rest d after behind place → WentCommand c before command rest d after behind place
+pub run_went : (c : CoreValue) (before : Path) (command : Command) (turns : ℕ) (rest : List Frame) (d : CoreValue) (after : Path) (behind : List Frame) (place : Option Place) → command ≡ Run turns → WentRun c turns rest d after behind place → WentCommand c command rest d after behind place
 run_went c before command turns rest d after behind place is went = record {
   application = went.application;
   beside = went.beside;
   few = went.few;
-  went = λ q cs same way g. went.went q cs same way (begins q cs (subst (λ (x : Command). GoesOn q c.application c.state (x ∷ cs) before.sent rest) is g));
+  went = λ q cs same way g. went.went q cs same way (begins q cs (subst (λ (x : Command). GoesOn q c.application c.state (x ∷ cs) rest) is g));
 }
   where
-    begins : (q : Quest) (cs : List Command) → GoesOn q c.application c.state (Run turns ∷ cs) before.sent rest → GoesInRun q c.application c.state turns 0 cs before.sent rest
+    begins : (q : Quest) (cs : List Command) → GoesOn q c.application c.state (Run turns ∷ cs) rest → GoesInRun q c.application c.state turns 0 cs rest
     begins q cs g = record {
       done = g.done;
       split = g.split;
       spot = λ o. g.spot o ∙ stand_begins c.application turns cs c.state o;
-      bytes = ap (λ (l : List ScriptStep). before.sent ++ bytes_of (acts_of l)) (sym (run_steps c.application turns cs c.state (turns_in rest))) ∙ g.bytes;
-      state = ap (state_after c.state) (sym (run_steps c.application turns cs c.state (turns_in rest))) ∙ g.state;
     }
 
 -- ---- a script
@@ -260,35 +216,27 @@ pub record Following (c d : CoreValue) (before now : Path) (commands : List Comm
   pub beside : IsBeside d now
   pub steps : d.steps + sum_by tries_of (drop at commands) ≤ c.steps + sum_by tries_of commands
   pub taken : All (IsTaken c.application) rest
-  pub goes : (q : Quest) → q.app ≡ c.application → IsWay q.app q.commands q.start q.frames → GoesOn q c.application c.state commands before.sent frames → GoesOn q d.application d.state (drop at commands) now.sent rest
+  pub goes : (q : Quest) → q.app ≡ c.application → IsWay q.app q.commands q.start q.frames → GoesOn q c.application c.state commands frames → GoesOn q d.application d.state (drop at commands) rest
 
 pub following_start : (c : CoreValue) (before : Path) (commands : List Command) (frames : List Frame) → IsBeside c before → All (IsTaken c.application) frames → Following c c before before commands 0 frames frames
 following_start c before commands frames beside taken = record { application = refl; beside = beside; steps = omega arith; taken = taken; goes = λ q same way g. g }
 
 module _ (c d : CoreValue) (before now : Path) (commands : List Command) (at : ℕ) (frames rest : List Frame) (following : Following c d before now commands at frames rest) where
-  pub following_over : length commands ≤ at → Followed c before commands frames d now Ended
+  pub following_over : length commands ≤ at → Followed c commands frames d now Ended
   following_over over = record {
     application = following.application;
     beside = following.beside;
     steps = let h = following.steps in omega (arith, h);
     few = tt;
-    reached = λ q same way g. ends q (subst (λ (l : List Command). GoesOn q d.application d.state l now.sent rest) (drop_all at commands over) (following.goes q same way g));
+    reached = λ q same way g. ends q (subst (λ (l : List Command). GoesOn q d.application d.state l rest) (drop_all at commands over) (following.goes q same way g));
   }
     where
-      ends : (q : Quest) → GoesOn q d.application d.state [] now.sent rest → Reached q d now.sent Ended
+      ends : (q : Quest) → GoesOn q d.application d.state [] rest → Reached q d Ended
       ends q g =
-          let none = no_steps d.application d.state (turns_in rest) in
-          record {
-            spot =
-                ap (λ (l : List Frame). stand q.app q.commands q.start (turns_in l)) g.split
-                ∙ ap (stand q.app q.commands q.start) (turns_both g.done rest)
-                ∙ g.spot (turns_in rest)
-                ∙ stand_ends d.application d.state (turns_in rest);
-            said = (
-              sym (ap (λ (l : List ScriptStep). now.sent ++ bytes_of (acts_of l)) none ∙ ap (λ (b : Bytes). now.sent ++ b) no_bytes_yet ∙ append-nil now.sent) ∙ g.bytes,
-              sym (ap (state_after d.state) none ∙ no_acts_after d.state) ∙ g.state,
-            );
-          }
+          ap (λ (l : List Frame). stand q.app q.commands q.start (turns_in l)) g.split
+          ∙ ap (stand q.app q.commands q.start) (turns_both g.done rest)
+          ∙ g.spot (turns_in rest)
+          ∙ stand_ends d.application d.state (turns_in rest)
 
   module _ (command : Command) (is : command ≡ get_or commands at command) (lt : at < length commands) where
     pub following_steps : c.steps + sum_by tries_of commands ≤ 10 ^ 14 → d.steps + tries_of command ≤ 10 ^ 14
@@ -298,12 +246,12 @@ module _ (c d : CoreValue) (before now : Path) (commands : List Command) (at : �
     following_names = name_here commands at command is lt c.application d.application following.application
 
     module _ (next : CoreValue) (later : Path) (behind : List Frame) where
-      goes_here : (place : Option Place) → WentCommand d now command rest next later behind place → (q : Quest) → q.app ≡ c.application → IsWay q.app q.commands q.start q.frames → GoesOn q c.application c.state commands before.sent frames → WentOrEnds q (drop (at + 1) commands) next later.sent behind place
+      goes_here : (place : Option Place) → WentCommand d command rest next later behind place → (q : Quest) → q.app ≡ c.application → IsWay q.app q.commands q.start q.frames → GoesOn q c.application c.state commands frames → WentOrEnds q (drop (at + 1) commands) next behind place
       goes_here place went q same way g =
           went.went q (drop (at + 1) commands) (same ∙ sym following.application) way
-          (subst (λ (l : List Command). GoesOn q d.application d.state l now.sent rest) (here_and_behind commands at command is lt) (following.goes q same way g))
+          (subst (λ (l : List Command). GoesOn q d.application d.state l rest) (here_and_behind commands at command is lt) (following.goes q same way g))
 
-      pub following_more : WentCommand d now command rest next later behind None → All (IsTaken d.application) behind → next.steps ≤ d.steps + tries_of command → Following c next before later commands (at + 1) frames behind
+      pub following_more : WentCommand d command rest next later behind None → All (IsTaken d.application) behind → next.steps ≤ d.steps + tries_of command → Following c next before later commands (at + 1) frames behind
       following_more went taken steps = record {
         application = went.application ∙ following.application;
         beside = went.beside;
@@ -312,7 +260,7 @@ module _ (c d : CoreValue) (before now : Path) (commands : List Command) (at : �
         goes = goes_here None went;
       }
 
-      pub following_stops : (place : Place) → WentCommand d now command rest next later behind (Some place) → next.steps ≤ d.steps + tries_of command → Followed c before commands frames next later place
+      pub following_stops : (place : Place) → WentCommand d command rest next later behind (Some place) → next.steps ≤ d.steps + tries_of command → Followed c commands frames next later place
       following_stops place went steps = record {
         application = went.application ∙ following.application;
         beside = went.beside;
@@ -321,8 +269,8 @@ module _ (c d : CoreValue) (before now : Path) (commands : List Command) (at : �
         reached = λ q same way g. stops place q (goes_here (Some place) went q same way g);
       }
         where
-          stops : (place : Place) (q : Quest) → WentOrEnds q (drop (at + 1) commands) next later.sent behind (Some place) → Reached q next later.sent place
-          stops (Inside left room) q h = record { spot = h; said = tt }
+          stops : (place : Place) (q : Quest) → WentOrEnds q (drop (at + 1) commands) next behind (Some place) → Reached q next place
+          stops (Inside left room) q h = h
           stops Ended q h = absurd h
 
 -- ---- the turns of a way
@@ -342,5 +290,5 @@ way_taken app cs s frames way k d less =
 
 -- ---- from the start
 
-pub goes_start : (q : Quest) → GoesOn q q.app q.start q.commands [] q.frames
-goes_start q = record { done = []; split = refl; spot = λ o. refl; bytes = refl; state = refl }
+pub goes_start : (q : Quest) → GoesOn q q.app q.start q.commands q.frames
+goes_start q = record { done = []; split = refl; spot = λ o. refl }

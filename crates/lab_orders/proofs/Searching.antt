@@ -105,10 +105,10 @@ trying_start c steps choices none facts few = record {
   once = subst AreOnce (sym none) tt;
 }
 
-idle_one : (app : Application) (s : State) (task n : ℕ) → has_effect app s task ≡ false → idle_from app s task (suc n) ≡ 1 + idle_from app s (task + 1) n
+pub idle_one : (app : Application) (s : State) (task n : ℕ) → has_effect app s task ≡ false → idle_from app s task (suc n) ≡ 1 + idle_from app s (task + 1) n
 idle_one app s task n e = ap (λ b. cond b 0 1 + idle_from app s (task + 1) n) e
 
-idle_none : (app : Application) (s : State) (task n : ℕ) → has_effect app s task ≡ true → idle_from app s task (suc n) ≡ idle_from app s (task + 1) n
+pub idle_none : (app : Application) (s : State) (task n : ℕ) → has_effect app s task ≡ true → idle_from app s task (suc n) ≡ idle_from app s (task + 1) n
 idle_none app s task n e = let one : idle_from app s task (suc n) ≡ 0 + idle_from app s (task + 1) n = ap (λ b. cond b 0 1 + idle_from app s (task + 1) n) e in omega (arith, one)
 
 module _ (c d : CoreValue) (steps at : ℕ) (choices : List ℕ) (idle : ℕ) (trying : Trying c d steps at choices idle) (lt : at < c.application.generation.limits.tasks) where

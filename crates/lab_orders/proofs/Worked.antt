@@ -17,6 +17,7 @@ use Rattle.laws_of_states.specs.Keeping.{HasFacts, IsScriptOf, Leads}
 use Rattle.lab_orders.specs.Laws.{OrdersAreWalked}
 use Rattle.lab_walks.specs.Orders.{IsNext, IsOrder, RunsSo, by_effect, has_effect, is_in, order_steps, turned_run, turned_script, worked, worked_run}
 use Rattle.lab_orders.specs.Walking.{IsNoRun}
+use Rattle.lab_walks.specs.Outcomes.{by_name}
 use Rattle.lab_walks.specs.Walks.{CanBe, InRun, IsEnd, Spot, idle_count, idle_from, stand, stand_run}
 use Rattle.lab_orders.proofs.Effects.{no_effect_no_acts, no_effect_no_change}
 use Rattle.lab_walks.specs.ListsLaws.{head_of, not_none, tail_of}
@@ -300,5 +301,5 @@ orders_are_walked keep app t cs starts order h =
     let ends = ahead.ends (started app t) order facts h in
     record {
       walk = record { can = walk.can; end = walk.end };
-      same = λ sent tables o. record { sent_is = o.sent_is ∙ sym ends.bytes; tables_are = o.tables_are ∙ ap (λ (s : State). listing s.tables) (sym ends.state) };
+      same = λ said tables o. record { sent_is = o.sent_is ∙ ap by_name (sym ends.bytes); tables_are = o.tables_are ∙ ap (λ (s : State). listing s.tables) (sym ends.state) };
     }

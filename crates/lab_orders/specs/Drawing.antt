@@ -1,13 +1,9 @@
 -- What the code comes to where turns are drawn.
 use Rattle.std.specs.Prelude.{◌≡◌, ◌-◌, ◌≤◌, ℕ, Bool, false, List, ◌∷◌, ◌++◌, get_or, length}
 use Rattle.abstract_monitor.specs.declared.command.Command.{Command}
-use Rattle.abstract_monitor.specs.Bytes.{Bytes}
-use Rattle.abstract_monitor.specs.Commands.{ScriptStep, acts_of, state_after}
 use Rattle.abstract_monitor.specs.State.{Application, State}
-use Rattle.abstract_monitor.specs.Trace.{bytes_of, history}
 use Rattle.monitor_core.specs.CoreValue.{CoreValue}
 use Rattle.lab_orders.specs.declared.path.Path.{Path}
-use Rattle.lab_walks.specs.Orders.{order_steps, turned_run, turned_script}
 use Rattle.lab_orders.specs.Walking.{IsBeside}
 use Rattle.lab_walks.specs.Walks.{CanBe, Spot, stand, stand_run}
 
@@ -23,28 +19,20 @@ pub record Script : Type 0 where
   pub commands : List Command
   pub start : State
 
--- the steps so far lead to this state and sent these bytes, and all steps are these and those behind
-pub record Tells (All Behind : List ℕ → List ScriptStep) (start s : State) (taken : List ℕ) (sent : Bytes) : Type 0 where
-  pub steps : List ScriptStep
-  pub are : (o : List ℕ) → All (taken ++ o) ≡ steps ++ Behind o
-  pub state : s ≡ state_after start steps
-  pub bytes : sent ≡ bytes_of (acts_of steps)
-
--- each turn that was taken can be where it is, and they lead on from this state
-pub record Came (q : Script) (Stand : List ℕ → Spot) (Behind : List ℕ → List ScriptStep) (s : State) (taken sent : List ℕ) : Type 0 where
+-- each turn that was taken can be where it is, and they lead on
+pub record Came (q : Script) (Stand : List ℕ → Spot) (taken : List ℕ) : Type 0 where
   pub can : (before : List ℕ) (t : ℕ) (behind : List ℕ) → taken ≡ before ++ t ∷ behind → CanBe q.app (stand q.app q.commands q.start before) t
   pub spot : (o : List ℕ) → stand q.app q.commands q.start (taken ++ o) ≡ Stand o
-  pub tells : Tells (order_steps q.app q.commands q.start) Behind q.start s taken sent
 
 -- between two commands, and in a RUN with so many turns left
-abbrev pub CameToCommands : Script → Application → State → List Command → (taken sent : List ℕ) → Type 0
-CameToCommands q app s cs taken sent = Came q (stand app cs s) (order_steps app cs s) s taken sent
+abbrev pub CameToCommands : Script → Application → State → List Command → (taken : List ℕ) → Type 0
+CameToCommands q app s cs taken = Came q (stand app cs s) taken
 
-abbrev pub CameIntoRun : Script → Application → State → (turns room : ℕ) → List Command → (taken sent : List ℕ) → Type 0
-CameIntoRun q app s turns room cs taken sent = Came q (stand_run app turns room (stand app cs) s) (λ o. history app s (turned_run turns (turned_script cs) o)) s taken sent
+abbrev pub CameIntoRun : Script → Application → State → (turns room : ℕ) → List Command → (taken : List ℕ) → Type 0
+CameIntoRun q app s turns room cs taken = Came q (stand_run app turns room (stand app cs) s) taken
 
 -- some commands were done
 pub record Drew (c : CoreValue) (before : Path) (commands : List Command) (d : CoreValue) (after : Path) : Type 0 where
   pub application : d.application ≡ c.application
   pub beside : IsBeside d after
-  pub came : (q : Script) (cs : List Command) → q.app ≡ c.application → CameToCommands q c.application c.state (commands ++ cs) before.turns before.sent → CameToCommands q d.application d.state cs after.turns after.sent
+  pub came : (q : Script) (cs : List Command) → q.app ≡ c.application → CameToCommands q c.application c.state (commands ++ cs) before.turns → CameToCommands q d.application d.state cs after.turns

@@ -1,5 +1,5 @@
 -- What an exploration promises.
-use Rattle.std.specs.Prelude.{◌≡◌, ◌⊎◌, ◌+◌, ◌≤◌, ℕ, zero, suc, true, false, List, [], ◌∷◌, cond, length, nat_lt, sum_by, Option, Some, None}
+use Rattle.std.specs.Prelude.{◌≡◌, ◌⊎◌, ◌+◌, ◌≤◌, ℕ, zero, suc, Bool, true, false, List, [], ◌∷◌, cond, length, nat_lt, sum_by, Option, Some, None}
 use Rattle.kdcs_types.specs.Tables.{TableRows}
 use Rattle.abstract_monitor.specs.declared.command.Command.{Command}
 use Rattle.abstract_monitor.specs.Commands.{started}
@@ -7,17 +7,20 @@ use Rattle.abstract_monitor.specs.State.{Application}
 use Rattle.laws_of_states.specs.ItemsLaws.{IsIn}
 use Rattle.lab_orders.specs.declared.explored.Explored.{Explored}
 use Rattle.lab_orders.specs.declared.explored.Outcome.{Outcome}
-use Rattle.lab_orders.specs.declared.search.Found.{Found}
+use Rattle.lab_orders.specs.declared.performed.Found.{Found}
+use Rattle.lab_orders.specs.Finding.{found_result}
 use Rattle.lab_orders.specs.Laws.{IsOrdered}
 use Rattle.lab_walks.specs.Lists.{AreOnce}
-use Rattle.lab_walks.specs.Orders.{HasOutcome, IsOrder}
-use Rattle.lab_orders.specs.Told.{AreMore, AreTold, AreWalks, turns_of}
+use Rattle.lab_walks.specs.Orders.{IsOrder}
+use Rattle.lab_walks.specs.Outcomes.{HasOutcome, sent_by}
+use Rattle.lab_orders.specs.Told.{AreMore, AreTold, AreWalks, ComesTo, outcome_result, turns_of}
 use Rattle.lab_walks.specs.Walks.{IsWalk}
 
--- the outcome of a walk, which it shows
+-- the outcome of a walk, which it shows with what it sends
 pub record IsOutcome (app : Application) (t : TableRows) (commands : List Command) (outcome : Outcome) : Type 0 where
   pub walk : IsWalk app commands (started app t) outcome.turns
-  pub outcome_is : HasOutcome app commands (started app t) outcome.turns outcome.sent outcome.tables
+  pub sent : outcome.sent ≡ sent_by app commands (started app t) outcome.turns
+  pub comes : ComesTo app commands (started app t) outcome outcome.turns
 
 -- each is one
 abbrev pub AreOutcomes : Application → TableRows → List Command → List Outcome → Type 0
@@ -29,19 +32,23 @@ abbrev pub AreOrdered : Application → TableRows → List Command → List Outc
 AreOrdered app t commands [] = Unit {0}
 AreOrdered app t commands (x ∷ xs) = IsOrdered app commands (started app t) x.turns × AreOrdered app t commands xs
 
--- what comes out of an order is among the outcomes
-abbrev pub IsShown : Application → TableRows → List Command → List Outcome → (order : List ℕ) → Type 0
-IsShown app t commands [] order = ⊥
-IsShown app t commands (x ∷ xs) order = HasOutcome app commands (started app t) order x.sent x.tables ⊎ IsShown app t commands xs order
+-- a walk comes to one of the outcomes
+abbrev pub IsShown : Application → TableRows → List Command → List Outcome → (walk : List ℕ) → Type 0
+IsShown app t commands [] walk = ⊥
+IsShown app t commands (x ∷ xs) walk = ComesTo app commands (started app t) x walk ⊎ IsShown app t commands xs walk
 
--- each order's is
+-- the lines of each name and the tables that come out of an order are those of one of the outcomes
+abbrev pub IsMet : Application → TableRows → List Command → List Outcome → (order : List ℕ) → Type 0
+IsMet app t commands [] order = ⊥
+IsMet app t commands (x ∷ xs) order = HasOutcome app commands (started app t) order x.lines x.tables ⊎ IsMet app t commands xs order
+
+-- each order's are
 abbrev pub AreAll : Application → TableRows → List Command → List Outcome → Type 0
-AreAll app t commands outcomes = (order : List ℕ) → IsOrder app commands (started app t) order → IsShown app t commands outcomes order
+AreAll app t commands outcomes = (order : List ℕ) → IsOrder app commands (started app t) order → IsMet app t commands outcomes order
 
--- the same is sent, and the same tables are left
-pub record AreSame (x y : Outcome) : Type 0 where
-  pub sent : x.sent ≡ y.sent
-  pub tables : x.tables ≡ y.tables
+-- the same lines of each name, the same tables, and the same signs
+abbrev pub AreSame : Outcome → Outcome → Type 0
+AreSame x y = outcome_result x ≡ outcome_result y
 
 -- none of these is the same
 abbrev pub IsOther : Outcome → List Outcome → Type 0
@@ -104,10 +111,9 @@ pub record IsDrawn (app : Application) (t : TableRows) (commands : List Command)
 
 -- ---- one order more
 
--- the same lines and tables
-pub record IsThatOf (outcome : Outcome) (found : Found) : Type 0 where
-  pub sent : outcome.sent ≡ found.sent
-  pub tables : outcome.tables ≡ found.tables
+-- what comes out of the walk is the outcome
+abbrev pub IsThatOf : Outcome → Found → Type 0
+IsThatOf outcome found = outcome_result outcome ≡ found_result found
 
 -- the first such outcome is at this place
 abbrev pub IsThere : List Outcome → Found → ℕ → Type 0
@@ -115,22 +121,23 @@ IsThere [] found at = ⊥
 IsThere (x ∷ xs) found zero = IsThatOf x found
 IsThere (x ∷ xs) found (suc at) = (IsThatOf x found → ⊥) × IsThere xs found at
 
--- the one with fewer turns, or else the other
-abbrev pub shorter : (walk other : List ℕ) → List ℕ
-shorter walk other = cond (nat_lt (turns_of walk) (turns_of other)) walk other
+-- it has fewer turns than the one that is shown
+abbrev pub is_shorter : Found → Outcome → Bool
+is_shorter found outcome = nat_lt (turns_of found.turns) (turns_of outcome.turns)
 
--- one order more that comes to it, and it shows the shorter one
+-- one walk more that comes to it, and it shows the shorter one
 pub record IsCounted (old new : Outcome) (found : Found) : Type 0 where
   pub same : IsThatOf old found
-  pub sent : new.sent ≡ old.sent
-  pub tables : new.tables ≡ old.tables
-  pub turns : new.turns ≡ shorter found.turns old.turns
+  pub result : outcome_result new ≡ outcome_result old
+  pub turns : new.turns ≡ cond (is_shorter found old) found.turns old.turns
+  pub sent : new.sent ≡ cond (is_shorter found old) found.sent old.sent
   pub orders : new.orders ≡ old.orders + 1
 
 -- what was found is a new outcome
 pub record IsFirst (new : Outcome) (found : Found) : Type 0 where
   pub same : IsThatOf new found
   pub turns : new.turns ≡ found.turns
+  pub sent : new.sent ≡ found.sent
   pub orders : new.orders ≡ 1
 
 -- what was found is one outcome more, or counts for the first that is the same

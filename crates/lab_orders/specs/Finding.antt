@@ -11,11 +11,12 @@ use Rattle.laws_of_states.specs.Keeping.{HasFacts, IsScriptOf}
 use Rattle.laws_of_states.specs.Suits.{Suits}
 use Rattle.monitor_core.specs.CoreValue.{CoreValue}
 use Rattle.lab_walks.specs.declared.frame.Frame.{Frame}
-use Rattle.lab_orders.specs.declared.search.Found.{Found}
+use Rattle.lab_orders.specs.declared.performed.Found.{Found}
 use Rattle.lab_orders.specs.declared.search.Seen.{Seen}
 use Rattle.lab_orders.specs.declared.search.Seen.TheVariants as seen
 use Rattle.lab_walks.specs.Lists.{AreOnce}
-use Rattle.lab_walks.specs.Orders.{HasOutcome, IsTurn, is_in}
+use Rattle.lab_walks.specs.Orders.{IsTurn, is_in}
+use Rattle.lab_walks.specs.Outcomes.{Result, result_of, sent_by}
 use Rattle.lab_walks.specs.Frames.{IsAhead, IsFrame, IsWay, turns_in}
 use Rattle.lab_orders.specs.Walking.{tries_of}
 use Rattle.lab_walks.specs.Walks.{IsEnd, IsWalk, idle_count, stand}
@@ -28,10 +29,15 @@ pub record CanStart (app : Application) (t : TableRows) (commands : List Command
   pub names : IsScriptOf app commands
   pub tries : sum_by tries_of commands ≤ 10 ^ 14
 
+-- what the code says of a result
+abbrev pub found_result : Found → Result
+found_result found = record { lines = found.lines; tables = found.tables; signs = found.signs }
+
 -- a walk with what comes out of it
 pub record IsFound (app : Application) (t : TableRows) (commands : List Command) (found : Found) : Type 0 where
   pub walk : IsWalk app commands (started app t) found.turns
-  pub outcome : HasOutcome app commands (started app t) found.turns found.sent found.tables
+  pub sent : found.sent ≡ sent_by app commands (started app t) found.turns
+  pub result : found_result found ≡ result_of app commands (started app t) found.turns
 
 -- each task was tried: those with an effect are listed, and the others are counted
 pub record AreTried (app : Application) (s : State) (choices : List ℕ) (idle : ℕ) : Type 0 where
@@ -48,7 +54,7 @@ pub record IsSame (c d : CoreValue) : Type 0 where
 
 -- the end of the turns, or what can be next
 abbrev pub SawIt : Application → List Command → TableRows → List Frame → Seen → Type 0
-SawIt app cs t frames (seen.Ended found) = IsEnd (stand app cs (started app t) (turns_in frames)) × (found.turns ≡ turns_in frames) × HasOutcome app cs (started app t) (turns_in frames) found.sent found.tables
+SawIt app cs t frames (seen.Ended found) = IsEnd (stand app cs (started app t) (turns_in frames)) × (found.turns ≡ turns_in frames) × IsFound app t cs found
 SawIt app cs t frames (seen.Open frame) = IsFrame app (stand app cs (started app t) (turns_in frames)) frame × (frame.at ≡ 0)
 
 -- the turns from these on to an end

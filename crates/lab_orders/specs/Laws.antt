@@ -9,7 +9,8 @@ use Rattle.abstract_monitor.specs.Trace.{history}
 use Rattle.laws_of_states.specs.Applications.{IsApplication}
 use Rattle.laws_of_states.specs.Keeping.{IsScriptOf}
 use Rattle.laws_of_states.specs.Suits.{Suits}
-use Rattle.lab_walks.specs.Orders.{HasOutcome, IsOrder, order_steps, worked}
+use Rattle.lab_walks.specs.Orders.{IsOrder, order_steps, worked}
+use Rattle.lab_walks.specs.Outcomes.{HasOutcome}
 use Rattle.lab_walks.specs.Walks.{IsWalk}
 
 -- tables from which the script can start
@@ -22,7 +23,7 @@ pub record Starts (app : Application) (t : TableRows) (cs : List Command) : Type
 -- an order without its turns without effect is a walk, and it comes to the same
 pub record IsWalked (app : Application) (t : TableRows) (cs : List Command) (order : List ℕ) : Type 0 where
   pub walk : IsWalk app cs (started app t) (worked app cs (started app t) order)
-  pub same : (sent tables : Bytes) → HasOutcome app cs (started app t) (worked app cs (started app t) order) sent tables → HasOutcome app cs (started app t) order sent tables
+  pub same : (lines : List Bytes) (tables : Bytes) → HasOutcome app cs (started app t) (worked app cs (started app t) order) lines tables → HasOutcome app cs (started app t) order lines tables
 
 -- each order is
 abbrev pub OrdersAreWalked : Type 0

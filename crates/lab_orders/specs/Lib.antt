@@ -3,6 +3,7 @@ pub mod Walking
 pub mod Searching
 pub mod Drawing
 pub mod Finding
+pub mod Performing
 pub mod Told
 pub mod Exploring
 pub mod Laws

@@ -1,28 +1,32 @@
 -- What is told of the walks that were tried.
-use Rattle.std.specs.Prelude.{◌≡◌, ◌+◌, ◌≤◌, ℕ, Bool, ◌&&◌, List, [], ◌∷◌, bytes_eq, count_by, length, nat_lt}
+use Rattle.std.specs.Prelude.{◌≡◌, ◌+◌, ◌≤◌, ℕ, Bool, List, [], ◌∷◌, count_by, length, nat_lt}
 use Rattle.abstract_monitor.specs.declared.command.Command.{Command}
-use Rattle.abstract_monitor.specs.Commands.{acts_of, state_after}
-use Rattle.abstract_monitor.specs.Listing.{listing}
 use Rattle.abstract_monitor.specs.State.{Application, State}
-use Rattle.abstract_monitor.specs.Trace.{bytes_of}
 use Rattle.laws_of_states.specs.ItemsLaws.{IsIn}
 use Rattle.lab_orders.specs.declared.explored.Outcome.{Outcome}
 use Rattle.lab_walks.specs.Lists.{AreOnce}
-use Rattle.lab_walks.specs.Orders.{HasOutcome, order_steps}
+use Rattle.lab_walks.specs.Outcomes.{Result, result_of, same_result}
 use Rattle.lab_walks.specs.Walks.{IsWalk}
 
 -- how many turns of tasks a walk has: 0 is none
 abbrev pub turns_of : (walk : List ℕ) → ℕ
 turns_of walk = count_by (λ (task : ℕ). nat_lt 0 task) walk
 
--- the lines and the tables of the outcome come out of the walk
+-- what the code says of an outcome
+abbrev pub outcome_result : Outcome → Result
+outcome_result x = record { lines = x.lines; tables = x.tables; signs = x.signs }
+
+-- the walk comes to the outcome: for each name the same lines are sent, the tables are the same, and so are the signs
+abbrev pub ComesTo : Application → List Command → State → Outcome → (walk : List ℕ) → Type 0
+ComesTo app cs s x walk = outcome_result x ≡ result_of app cs s walk
+
 abbrev pub comes_to : Application → List Command → State → Outcome → (walk : List ℕ) → Bool
-comes_to app cs s x walk = bytes_eq x.sent (bytes_of (acts_of (order_steps app cs s walk))) && bytes_eq x.tables (listing (state_after s (order_steps app cs s walk)).tables)
+comes_to app cs s x walk = same_result (outcome_result x) (result_of app cs s walk)
 
 -- one of the walks that were tried, which comes to the outcome
 pub record IsOneOf (app : Application) (cs : List Command) (s : State) (walks : List (List ℕ)) (x : Outcome) (walk : List ℕ) : Type 0 where
   pub among : IsIn walk walks
-  pub comes : HasOutcome app cs s walk x.sent x.tables
+  pub comes : ComesTo app cs s x walk
 
 -- what is told of an outcome
 pub record IsTold (app : Application) (cs : List Command) (s : State) (walks : List (List ℕ)) (x : Outcome) : Type 0 where

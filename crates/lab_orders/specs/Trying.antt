@@ -1,4 +1,4 @@
--- What the code of a search comes to at one turn.
+-- What the code of a search comes to at one turn, and where it asks whether any has an effect.
 use Rattle.std.specs.Prelude.{◌≡◌, ℕ, Bool, true, false, Option, Some, None}
 use Rattle.abstract_monitor.specs.Turns.{turn_of}
 use Rattle.laws_of_states.specs.Keeping.{HasFacts}
@@ -6,6 +6,7 @@ use Rattle.monitor_core.specs.CoreValue.{CoreValue}
 use Rattle.service_ends.specs.Ending.{turned_to}
 use Rattle.service_ends.specs.declared.turned.Turned.{Turned as Did}
 use Rattle.lab_walks.specs.Orders.{has_effect}
+use Rattle.lab_walks.specs.Signs.{is_at_rest}
 
 -- a turn with an effect was done, or the state is as it was
 abbrev pub DidOrNot : CoreValue → (task : ℕ) → CoreValue → Option Did → Type 0
@@ -23,3 +24,9 @@ pub record TriedEffect (c : CoreValue) (task : ℕ) (d : CoreValue) (moved : Boo
   pub facts : HasFacts d.application d.state
   pub effect : has_effect c.application c.state task ≡ moved
   pub stays : moved ≡ false → d.state ≡ c.state
+
+-- whether no task's turn has an effect; then the core is as it was
+pub record Rested (c d : CoreValue) (rests : Bool) : Type 0 where
+  pub application : d.application ≡ c.application
+  pub is : rests ≡ is_at_rest c.application c.state
+  pub stays : rests ≡ true → d.state ≡ c.state

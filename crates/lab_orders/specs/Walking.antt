@@ -1,19 +1,21 @@
 -- What the code of a search comes to at one command.
-use Rattle.std.specs.Prelude.{◌≡◌, ◌++◌, ℕ, []}
+use Rattle.std.specs.Prelude.{◌≡◌, ◌++◌, ◌+◌, ◌||◌, ℕ, false, []}
 use Rattle.kdcs_types.specs.Tables.{TableRows}
 use Rattle.abstract_monitor.specs.declared.command.Command.{Command}
 use Rattle.abstract_monitor.specs.declared.command.Command.TheVariants.{Input, Tick, Run, Turn, Drop, Print, PrintLast, Restart}
-use Rattle.abstract_monitor.specs.Commands.{command_of, started}
+use Rattle.abstract_monitor.specs.Commands.{ScriptStep, command_of, started}
 use Rattle.abstract_monitor.specs.State.{Application}
 use Rattle.abstract_monitor.specs.Trace.{bytes_of}
 use Rattle.laws_of_states.specs.Keeping.{HasFacts}
 use Rattle.monitor_core.specs.CoreSteps.{durable_of}
 use Rattle.monitor_core.specs.CoreValue.{CoreValue}
+use Rattle.lab_walks.specs.declared.signs.Signs.{Signs}
+use Rattle.lab_walks.specs.Signs.{is_dump, is_k04, is_k05, is_refused_in}
 use Rattle.lab_orders.specs.declared.path.Path.{Path}
 
--- how many turns and commands a command comes to at most
+-- how many turns and commands a command comes to at most: a RUN to its turns, and to one of each task at its end
 abbrev pub tries_of : Command → ℕ
-tries_of (Run turns) = turns
+tries_of (Run turns) = turns + 65535
 tries_of (Input pterm text) = 1
 tries_of (Tick ticks) = 1
 tries_of (Turn task) = 1
@@ -38,6 +40,22 @@ pub record IsBeside (c : CoreValue) (p : Path) : Type 0 where
   pub facts : HasFacts c.application c.state
   pub durable : p.durable ≡ durable_of c
 
+-- ---- what was seen
+
+-- no request was refused, and nothing ended with a dump
+pub record HasNoSigns (signs : Signs) : Type 0 where
+  pub k04 : signs.k04 ≡ false
+  pub k05 : signs.k05 ≡ false
+  pub dump : signs.dump ≡ false
+
+-- and with one step more
+pub record IsSeen (before : Signs) (step : ScriptStep) (after : Signs) : Type 0 where
+  pub k04 : after.k04 ≡ (before.k04 || is_refused_in is_k04 step.after)
+  pub k05 : after.k05 ≡ (before.k05 || is_refused_in is_k05 step.after)
+  pub dump : after.dump ≡ (before.dump || is_dump step.by)
+
+-- ---- what was done
+
 -- a core that started from tables, beside a walk of which nothing is done
 pub record Begun (app : Application) (t : TableRows) (c : CoreValue) (p : Path) : Type 0 where
   pub application : c.application ≡ app
@@ -45,6 +63,7 @@ pub record Begun (app : Application) (t : TableRows) (c : CoreValue) (p : Path) 
   pub beside : IsBeside c p
   pub turns : p.turns ≡ []
   pub sent : p.sent ≡ []
+  pub signs : HasNoSigns p.signs
   pub steps : c.steps ≡ 0
 
 -- a command was done
@@ -54,3 +73,4 @@ pub record DidCommand (c : CoreValue) (before : Path) (command : Command) (d : C
   pub state : d.state ≡ (command_of c.application c.state command).after
   pub turns : after.turns ≡ before.turns
   pub sent : after.sent ≡ before.sent ++ bytes_of (command_of c.application c.state command).acts
+  pub signs : IsSeen before.signs (command_of c.application c.state command) after.signs

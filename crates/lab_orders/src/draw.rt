@@ -6,8 +6,8 @@ ghost use Rattle.laws_of_states.specs.Keeping.{IsScriptOf};
 ghost use Rattle.lab_orders.specs.{Drawing.{Drew}, Finding.{CanStart, IsFound}, Walking.{IsBeside, tries_of}};
 
 use crate::path::Path;
+use crate::performed::{Found, found_of};
 use crate::resting::Resting;
-use crate::search::{Found, outcome_of};
 use crate::start::begin;
 use crate::step::do_command;
 use crate::turns::try_turn;
@@ -40,7 +40,7 @@ fn drawn_run(
     let mut effects: u64 = 0;
     for _made in 0..turns {
         let Some(task) = resting.draw(numbers) else {
-            path.end_run(false)?;
+            path.end_run()?;
             return Ok(core);
         };
         let (next, did) = try_turn(alloc, core, task)?;
@@ -54,7 +54,7 @@ fn drawn_run(
         }
     }
     if effects < turns {
-        path.end_run(true)?;
+        path.end_run()?;
     }
     Ok(core)
 }
@@ -113,7 +113,6 @@ pub(crate) fn drawn_order(
 {
     let (core, mut path) = begin(alloc, generation, units, tables)?;
     let core = drawn_walk(alloc, core, &mut path, numbers, commands)?;
-    let found = outcome_of(alloc, &core, path)?;
     let (generation, units) = core.into_application();
-    Ok((generation, units, found))
+    found_of(alloc, generation, units, tables, commands, path.turns)
 }

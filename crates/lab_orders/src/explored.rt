@@ -1,52 +1,57 @@
 //! All orders of a script, and the distinct outcomes.
-ghost use Rattle.std.specs.Prelude.{◌≡◌, ◌↔◌, ◌+◌, ◌<◌, ◌≤◌, ◌^◌, true, false, All, IsTrue, IfOk, MatchOption, OnOk, sum_by};
+ghost use Rattle.std.specs.Prelude.{◌≡◌, ◌↔◌, ◌+◌, ◌<◌, ◌≤◌, ◌^◌, true, false, cond, All, IsTrue, IfOk, MatchOption, OnOk, sum_by};
 ghost use Rattle.abstract_monitor.specs.Commands.{started};
 ghost use Rattle.laws_of_runs.specs.Applied.{applied};
-ghost use Rattle.lab_orders.specs.{Exploring.{AllOrMore, AreAll, AreDistinct, AreOrdered, AreOutcomes, IsAdded, IsDrawn, IsThatOf, IsThere, IsTried, shorter}, Finding.{CanStart}, Told.{AreMore, turns_of}};
+ghost use Rattle.lab_orders.specs.{Exploring.{AllOrMore, AreAll, AreDistinct, AreOrdered, AreOutcomes, IsAdded, IsDrawn, IsFirst, IsThatOf, IsThere, IsTried, is_shorter}, Finding.{CanStart}, Told.{AreMore, outcome_result, turns_of}};
 
 use crate::draw::drawn_order;
 use crate::laws_of_orders::{orders_are_walked, walks_are_orders};
-use crate::path::Signs;
-use crate::search::{Found, descend};
+use crate::performed::Found;
+use crate::search::descend;
 use abstract_monitor::Command;
 use application_types::generation::Generation;
 use application_types::units::Units;
 use kd_base::{Bytes, OutOfMemory, Sequence};
 use kdcs_types::Tables;
-use lab_walks::{Turns, advance};
+use lab_walks::{Signs, Turns, advance};
 use laws_of_runs::laws_of_applications::fitted_units_make_an_application;
 use rand_core::SeedableRng;
 use rand_xoshiro::SplitMix64;
 use std::alloc::Global;
 
-/// What comes out of some orders: the lines that are sent, and the tables at the end.
+/// What comes out of some orders: for each name the lines that are sent, the tables at the end, and the signs.
 pub struct Outcome {
-    /// All lines, each with its end.
-    pub sent: Bytes,
+    /// The lines by their names, those of one name in their order. A name is the second word of a line: a terminal, or the
+    /// owner of a dump.
+    pub lines: Sequence<Bytes>,
     /// The lines of the tables at the end, as `show` prints them.
     pub tables: Bytes,
+    /// What is worth a look in each of these orders.
+    pub signs: Signs,
     /// How many of the orders that were tried come to it.
     pub orders: u64,
     /// The shortest of these orders.
     pub turns: Turns,
-    /// What was seen in one of them at least.
-    pub signs: Signs,
+    /// All that it sends: lines, each with its end.
+    pub sent: Bytes,
 }
 
 impl Drop for Outcome {
     fn drop(self) {
         let Outcome {
-            sent,
+            lines,
             tables,
+            signs,
             orders,
             turns,
-            signs,
+            sent,
         } = self;
-        let _ = sent;
+        let _ = lines;
         let _ = tables;
+        let _ = signs;
         let _ = orders;
         let _ = turns;
-        let _ = signs;
+        let _ = sent;
     }
 }
 
@@ -96,44 +101,43 @@ fn turns_of(turns: &[u16]) -> usize
 
 impl Outcome {
     fn from_found(found: Found) -> Outcome
-        ensures sent { result.sent ≡ found.sent }
-        ensures tables { result.tables ≡ found.tables }
-        ensures turns { result.turns ≡ found.turns }
-        ensures orders { result.orders ≡ 1 }
+        ensures { IsFirst result found }
     {
         Outcome {
-            sent: found.sent,
+            lines: found.lines,
             tables: found.tables,
+            signs: found.signs,
             orders: 1,
             turns: found.turns,
-            signs: found.signs,
+            sent: found.sent,
         }
     }
 
     fn is_that_of(&self, found: &Found) -> bool
         ensures { IsTrue result ↔ IsThatOf self.now found.now }
     {
-        self.sent.as_slice() == found.sent.as_slice()
+        self.signs == found.signs
             && self.tables.as_slice() == found.tables.as_slice()
+            && self.lines.as_slice() == found.lines.as_slice()
     }
 
     // One order more comes to it.
     fn count(&mut self, found: Found)
         requires { self.old.orders + 1 < 2 ^ 64 }
-        ensures sent { self.new.sent ≡ self.old.sent }
-        ensures tables { self.new.tables ≡ self.old.tables }
-        ensures turns { self.new.turns ≡ shorter found.turns self.old.turns }
+        ensures result { outcome_result self.new ≡ outcome_result self.old }
+        ensures turns { self.new.turns ≡ cond (is_shorter found self.old) found.turns self.old.turns }
+        ensures sent { self.new.sent ≡ cond (is_shorter found self.old) found.sent self.old.sent }
         ensures orders { self.new.orders ≡ self.old.orders + 1 }
     {
         self.orders += 1;
-        self.signs = self.signs.with(found.signs);
         if turns_of(found.turns.as_slice()) < turns_of(self.turns.as_slice()) {
             self.turns = found.turns;
+            self.sent = found.sent;
         }
     }
 }
 
-// The first place of an outcome with the same lines and tables.
+// The first place of the same outcome.
 fn place_of(outcomes: &[Outcome], found: &Found) -> Option<usize>
     ensures { MatchOption result (All (λ o. IsThatOf o found.now → ⊥) outcomes.now) (λ at. IsThere outcomes.now found.now at) }
 {

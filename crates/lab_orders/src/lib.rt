@@ -2,28 +2,31 @@
 //!
 //! It stands on monitor_core, whose core says what each turn and each command does, on monitor_parts, for the listing
 //! of tables, on the laws of states, and on rand_xoshiro, by which orders are drawn. It searches walks, which are orders
-//! without their turns without effect. To the laboratory, its contract says that each outcome is that of a walk, which it
-//! shows: of the script with the TURN commands of this walk in place of RUNs; that each walk is an order without its turns
-//! without effect; that no two outcomes are the same; that there is a list of the walks that were tried, of the length that
-//! it tells, in which so many come to each outcome as it counts, and none of them has fewer turns than the one that is
-//! shown; that where it answers that it tried all, each walk is in this list once, and each order's outcome is among the
-//! outcomes, whichever turns without effect it has; and that elsewhere there are more walks than it may try. Three laws
+//! without their turns without effect, and performs each that it finds. To the laboratory, its contract says that each
+//! outcome is that of a walk, which it shows with all that it sends: of the script with the TURN commands of this walk in
+//! place of RUNs; that each walk is an order without its turns without effect; that no two outcomes have the same lines of
+//! each name, the same tables and the same signs; that there is a list of the walks that were tried, of the length that it
+//! tells, in which so many come to each outcome as it counts, and none of them has fewer turns than the one that is shown;
+//! that where it answers that it tried all, each walk is in this list once, and each order's lines and tables are among
+//! the outcomes, whichever turns without effect it has; and that elsewhere there are more walks than it may try. Three laws
 //! are beside it (`laws_of_orders`); one says that the rotation of the tasks is an order. It knows no file and no device.
 #![tactic(auto)]
 
 mod draw;
 mod explored;
 pub mod laws_of_orders;
+mod lines;
 mod path;
+mod performed;
 mod reach;
 mod resting;
 mod script;
 mod search;
+mod seeing;
 mod start;
 mod step;
 mod turns;
 
 pub use explored::{Explored, Outcome, explore};
-pub use lab_walks::Turns;
-pub use path::Signs;
+pub use lab_walks::{Signs, Turns};
 pub use script::turned;

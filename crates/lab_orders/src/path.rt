@@ -1,87 +1,18 @@
-//! What is kept of an order as it is followed.
+//! What is kept of commands and turns as they are done.
 ghost use Rattle.std.specs.Prelude.{◌≡◌, ◌++◌, ◌∷◌, [], OnOk};
 ghost use Rattle.abstract_monitor.specs.Trace.{bytes_of, tables_after};
 ghost use Rattle.monitor_core.specs.Keeping.{AreKept};
+ghost use Rattle.lab_orders.specs.Walking.{HasNoSigns};
 
+use crate::seeing::no_signs;
 use kd_base::{Bytes, OutOfMemory};
-use kdcs_types::{Act, Acts, Code, Ending, Note, Tables};
-use lab_walks::Turns;
+use kdcs_types::{Act, Acts, Tables};
+use lab_walks::{Signs, Turns};
+use monitor_core::Turned;
 use monitor_core::script_run::keep_commits;
-use monitor_core::{Core, Turned};
 use std::alloc::Global;
-use sync_points::KeptRecord;
 
-/// What is worth a look in an order.
-#[derive(Clone, Copy, Debug, PartialEq, Eq)]
-pub struct Signs {
-    /// A request was refused with K04.
-    pub k04: bool,
-    /// A request was refused with K05.
-    pub k05: bool,
-    /// A transaction ended with a dump.
-    pub dump: bool,
-    /// A service waits at the end.
-    pub standstill: bool,
-    /// A RUN was over by its count, and a task's turn would still have had an effect.
-    pub spent: bool,
-}
-
-impl Signs {
-    /// Nothing.
-    pub(crate) fn none() -> Signs {
-        Signs {
-            k04: false,
-            k05: false,
-            dump: false,
-            standstill: false,
-            spent: false,
-        }
-    }
-
-    /// What was seen in one of both.
-    pub(crate) fn with(self, other: Signs) -> Signs {
-        Signs {
-            k04: self.k04 || other.k04,
-            k05: self.k05 || other.k05,
-            dump: self.dump || other.dump,
-            standstill: self.standstill || other.standstill,
-            spent: self.spent || other.spent,
-        }
-    }
-
-    fn see_notes(&mut self, notes: &[Note]) {
-        for note in notes {
-            match note {
-                Note::Refused(_, Code::K04) => self.k04 = true,
-                Note::Refused(_, Code::K05) => self.k05 = true,
-                Note::Refused(_, _) | Note::Released(_, _) => {}
-            }
-        }
-    }
-
-    // The codes and the ending of a transaction.
-    fn see_settled(&mut self, settled: &Option<KeptRecord>) {
-        let Some(kept) = settled else {
-            return;
-        };
-        let kept = kept.settled();
-        self.see_notes(kept.notes.as_slice());
-        if let Ending::Broken(_) = kept.ending {
-            self.dump = true;
-        }
-    }
-
-    /// The codes of open transactions, and whether a service waits.
-    pub(crate) fn see_end(&mut self, core: &Core) {
-        let parts = core.parts();
-        for (_, transaction) in parts.active.iter() {
-            self.see_notes(transaction.notes.as_slice());
-        }
-        self.standstill = parts.locks.waiting() > 0;
-    }
-}
-
-/// An order so far: its turns, what was sent, and what is worth a look.
+/// What was done so far: the turns of RUNs, what was sent, and what was seen.
 #[derive(Drop)]
 pub(crate) struct Path {
     pub(crate) turns: Turns,
@@ -110,27 +41,24 @@ impl Path {
         ensures turns { result.turns ≡ [] }
         ensures sent { result.sent ≡ [] }
         ensures durable { result.durable ≡ durable }
+        ensures signs { HasNoSigns result.signs }
     {
         Path {
             turns: Turns::new(alloc),
             sent: Bytes::new(alloc),
             durable,
-            signs: Signs::none(),
+            signs: no_signs(),
         }
     }
 
-    /// Acts were done, of a transaction that settled or of none.
-    pub(crate) fn keep(
-        &mut self,
-        acts: Acts,
-        settled: &Option<KeptRecord>,
-    ) -> Result<(), OutOfMemory>
+    /// Acts were done.
+    pub(crate) fn keep(&mut self, acts: Acts) -> Result<(), OutOfMemory>
         requires { AreKept acts }
         ensures turns { OnOk result (self.new.turns ≡ self.old.turns) }
         ensures sent { OnOk result (self.new.sent ≡ self.old.sent ++ bytes_of acts) }
         ensures durable { OnOk result (self.new.durable ≡ tables_after self.old.durable acts) }
+        ensures signs { OnOk result (self.new.signs ≡ self.old.signs) }
     {
-        self.signs.see_settled(settled);
         keep_commits(&mut self.durable, acts.as_slice())?;
         send(&mut self.sent, acts.as_slice())
     }
@@ -142,18 +70,17 @@ impl Path {
         ensures sent { OnOk result (self.new.sent ≡ self.old.sent ++ bytes_of did.acts) }
         ensures durable { OnOk result (self.new.durable ≡ tables_after self.old.durable did.acts) }
     {
-        let Turned { acts, settled, .. } = did;
+        let Turned { acts, .. } = did;
         self.turns.push(task)?;
-        self.keep(acts, &settled)
+        self.keep(acts)
     }
 
     /// 0 ends a RUN, by its count or because no turn has an effect any more.
-    pub(crate) fn end_run(&mut self, is_spent: bool) -> Result<(), OutOfMemory>
+    pub(crate) fn end_run(&mut self) -> Result<(), OutOfMemory>
         ensures turns { OnOk result (self.new.turns ≡ self.old.turns ++ 0 ∷ []) }
         ensures sent { self.new.sent ≡ self.old.sent }
         ensures durable { self.new.durable ≡ self.old.durable }
     {
-        self.signs.spent |= is_spent;
         self.turns.push(0)
     }
 }

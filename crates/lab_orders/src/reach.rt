@@ -42,7 +42,7 @@ fn reach_run<'a>(
     requires beside { IsBeside core path.old }
     requires taken { All (IsTaken core.application) frames.now }
     requires steps { core.steps + turns ≤ 10 ^ 14 }
-    ensures went { IfOk result (λ next. WentRun core path.old turns frames.now next.0 path.new next.1.0.now next.1.1) }
+    ensures went { IfOk result (λ next. WentRun core turns frames.now next.0 path.new next.1.0.now next.1.1) }
     ensures taken { IfOk result (λ next. All (IsTaken core.application) next.1.0.now) }
     ensures steps { IfOk result (λ next. next.0.steps ≤ core.steps + turns) }
 {
@@ -55,7 +55,6 @@ fn reach_run<'a>(
         rest = behind;
         let task = frame.turn();
         if task == 0 {
-            path.signs.spent |= frame.is_spent();
             return Ok((core, (rest, None)));
         }
         core = do_turn(alloc, core, path, task)?;
@@ -76,7 +75,7 @@ fn reach_command<'a>(
     requires names { IsCommandOf core.application.generation command.now }
     requires taken { All (IsTaken core.application) frames.now }
     requires steps { core.steps + tries_of command.now ≤ 10 ^ 14 }
-    ensures went { IfOk result (λ next. WentCommand core path.old command.now frames.now next.0 path.new next.1.0.now next.1.1) }
+    ensures went { IfOk result (λ next. WentCommand core command.now frames.now next.0 path.new next.1.0.now next.1.1) }
     ensures taken { IfOk result (λ next. All (IsTaken core.application) next.1.0.now) }
     ensures steps { IfOk result (λ next. next.0.steps ≤ core.steps + tries_of command.now) }
 {
@@ -99,7 +98,7 @@ fn follow(
     requires names { IsScriptOf core.application commands.now }
     requires taken { All (IsTaken core.application) frames.now }
     requires steps { core.steps + sum_by tries_of commands.now ≤ 10 ^ 14 }
-    ensures { IfOk result (λ next. Followed core path.old commands.now frames.now next.0 path.new next.1) }
+    ensures { IfOk result (λ next. Followed core commands.now frames.now next.0 path.new next.1) }
 {
     let mut rest = frames;
     for command in commands {
@@ -121,16 +120,16 @@ pub(crate) fn reach(
     tables: &Tables,
     commands: &[Command],
     frames: &[Frame],
-) -> Result<(Core, Path, Place), OutOfMemory>
+) -> Result<(Core, Place), OutOfMemory>
     requires start { CanStart (applied generation units) tables.now commands.now generation units }
     requires way { IsWay (applied generation units) commands.now (started (applied generation units) tables.now) frames.now }
     ensures application { IfOk result (λ r. r.0.application ≡ applied generation units) }
     ensures facts { IfOk result (λ r. HasFacts r.0.application r.0.state) }
-    ensures reached { IfOk result (λ r. Reached (quest_of (applied generation units) commands.now tables.now frames.now) r.0 r.1.sent r.2) }
+    ensures reached { IfOk result (λ r. Reached (quest_of (applied generation units) commands.now tables.now frames.now) r.0 r.1) }
     ensures steps { IfOk result (λ r. r.0.steps ≤ sum_by tries_of commands.now) }
-    ensures few { IfOk result (λ r. CanCount r.2) }
+    ensures few { IfOk result (λ r. CanCount r.1) }
 {
     let (core, mut path) = begin(alloc, generation, units, tables)?;
     let (core, place) = follow(alloc, core, &mut path, commands, frames)?;
-    Ok((core, path, place))
+    Ok((core, place))
 }

@@ -1,6 +1,6 @@
 //! The walks of a script, one after another, the first choice first.
 ghost use Rattle.std.specs.Prelude.{◌≡◌, ◌⊎◌, ◌+◌, ◌*◌, ◌≤◌, ◌^◌, true, false, All, [], IfOk, IsTrue, OnOk, sum_by};
-ghost use Rattle.abstract_monitor.specs.{Commands.{started}, Listing.{listing}};
+ghost use Rattle.abstract_monitor.specs.Commands.{started};
 ghost use Rattle.laws_of_runs.specs.Applied.{applied};
 ghost use Rattle.laws_of_states.specs.Keeping.{HasFacts};
 ghost use Rattle.lab_orders.specs.Finding.{AreTried, CanStart, Descended, IsSame, SawIt};
@@ -9,49 +9,22 @@ ghost use Rattle.lab_walks.specs.Frames.{IsFrame, IsWay, turns_in};
 ghost use Rattle.lab_orders.specs.Walking.{tries_of};
 ghost use Rattle.lab_walks.specs.Walks.{InRun, IsEnd, stand};
 
-use crate::path::{Path, Signs};
+use crate::performed::{Found, found_of};
 use crate::reach::{Place, reach};
 use crate::turns::try_effect;
 use abstract_monitor::Command;
 use application_types::generation::Generation;
 use application_types::units::Units;
-use kd_base::{Bytes, OutOfMemory};
+use kd_base::OutOfMemory;
 use kdcs_types::Tables;
 use lab_walks::{Frame, Turns, ends, turns_of};
 use monitor_core::Core;
-use monitor_parts::output_lines::table_lines;
 use std::alloc::Global;
-
-/// A walk, and what came out of it.
-#[derive(Drop)]
-pub(crate) struct Found {
-    pub(crate) turns: Turns,
-    pub(crate) sent: Bytes,
-    /// The lines of the tables.
-    pub(crate) tables: Bytes,
-    pub(crate) signs: Signs,
-}
 
 /// Where some turns lead: to an end, or to what can be next.
 enum Seen {
     Ended(Found),
     Open(Frame),
-}
-
-/// What came out of turns.
-pub(crate) fn outcome_of(alloc: Global, core: &Core, path: Path) -> Result<Found, OutOfMemory>
-    ensures turns { IfOk result (λ f. f.turns ≡ path.turns) }
-    ensures sent { IfOk result (λ f. f.sent ≡ path.sent) }
-    ensures tables { IfOk result (λ f. f.tables ≡ listing core.now.state.tables) }
-{
-    let mut signs = path.signs;
-    signs.see_end(core);
-    Ok(Found {
-        tables: table_lines(alloc, core.tables())?,
-        turns: path.turns,
-        sent: path.sent,
-        signs,
-    })
 }
 
 // The monitor again as the turns leave it.
@@ -70,7 +43,7 @@ fn again(
     ensures steps { IfOk result (λ next. next.steps ≤ sum_by tries_of commands.now) }
 {
     let (generation, units) = core.into_application();
-    let (core, _path, _place) = reach(alloc, generation, units, tables, commands, frames)?;
+    let (core, _place) = reach(alloc, generation, units, tables, commands, frames)?;
     Ok(core)
 }
 
@@ -153,12 +126,14 @@ fn see(
     ensures again { IfOk result (λ n. CanStart (applied generation units) tables.now commands.now n.0 n.1) }
     ensures saw { IfOk result (λ n. SawIt (applied generation units) commands.now tables.now frames.now n.2) }
 {
-    let (core, mut path, place) = reach(alloc, generation, units, tables, commands, frames)?;
+    let (core, place) = reach(alloc, generation, units, tables, commands, frames)?;
     match place {
         Place::Ended => {
-            path.turns = turns_of(alloc, frames)?;
-            let found = outcome_of(alloc, &core, path)?;
+            let turns = turns_of(alloc, frames)?;
             let (generation, units) = core.into_application();
+            let (generation, units, found) = found_of(
+                alloc, generation, units, tables, commands, turns,
+            )?;
             Ok((generation, units, Seen::Ended(found)))
         }
         Place::Inside(left, room) => {

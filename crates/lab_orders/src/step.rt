@@ -6,6 +6,7 @@ ghost use Rattle.monitor_core.specs.Commanding.{IsCoreCommand};
 ghost use Rattle.lab_orders.specs.Walking.{DidCommand, IsBeside, IsNoRun};
 
 use crate::path::Path;
+use crate::seeing::seen;
 use crate::start::start;
 use abstract_monitor::Command;
 use kd_base::OutOfMemory;
@@ -32,7 +33,8 @@ fn do_core_command(
 {
     steps_commit_once();
     let (next, acts) = core.apply(alloc, command)?;
-    path.keep(acts, &None)?;
+    path.keep(acts)?;
+    path.signs = seen(path.signs, &None, &next);
     Ok(next)
 }
 
@@ -52,7 +54,8 @@ pub(crate) fn do_turn(
     steps_commit_once();
     let (next, did) = core.turn(alloc, task)?;
     let Turned { acts, settled, .. } = did;
-    path.keep(acts, &settled)?;
+    path.keep(acts)?;
+    path.signs = seen(path.signs, &settled, &next);
     Ok(next)
 }
 
@@ -66,6 +69,7 @@ fn restart(alloc: Global, core: Core, path: &mut Path) -> Result<Core, OutOfMemo
     let (generation, units) = core.into_application();
     path.sent.append(RESTARTED)?;
     let next = start(alloc, generation, units, &path.durable)?;
+    path.signs = seen(path.signs, &None, &next);
     Ok(next)
 }
 

@@ -1,8 +1,8 @@
 //! One turn of a task, and whether it has an effect.
-ghost use Rattle.std.specs.Prelude.{◌≡◌, ◌+◌, ◌<◌, ◌^◌, IfOk};
+ghost use Rattle.std.specs.Prelude.{◌≡◌, ◌+◌, ◌<◌, ◌≤◌, ◌^◌, IfOk};
 ghost use Rattle.application_types.specs.Statements.{IsWithin};
 ghost use Rattle.laws_of_states.specs.Keeping.{HasFacts};
-ghost use Rattle.lab_orders.specs.Trying.{Tried, TriedEffect};
+ghost use Rattle.lab_orders.specs.Trying.{Rested, Tried, TriedEffect};
 ghost use Rattle.lab_walks.specs.Orders.{wait_in};
 
 use kd_base::OutOfMemory;
@@ -54,4 +54,22 @@ pub(crate) fn try_effect(alloc: Global, core: Core, task: u16) -> Result<(Core, 
 {
     let (next, did) = try_turn(alloc, core, task)?;
     Ok((next, did.is_some()))
+}
+
+/// Whether no task's turn has an effect. Then the monitor is as it was.
+pub(crate) fn is_at_rest(alloc: Global, mut core: Core) -> Result<(Core, bool), OutOfMemory>
+    requires facts { HasFacts core.application core.state }
+    requires steps { core.steps + 65535 ≤ 10 ^ 18 }
+    ensures rested { IfOk result (λ r. Rested core r.0 r.1) }
+    ensures steps { IfOk result (λ r. r.0.steps ≤ core.steps + 65535) }
+{
+    let tasks = core.tasks();
+    for at in 0..tasks {
+        let (next, moved) = try_effect(alloc, core, at + 1)?;
+        core = next;
+        if moved {
+            return Ok((core, false));
+        }
+    }
+    Ok((core, true))
 }

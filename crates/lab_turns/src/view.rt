@@ -174,7 +174,7 @@ fn code_of(transaction: Option<&OpenTransaction>) -> Option<Code> {
 // How the turn ended its transaction.
 fn ending_of(did: &Turned) -> Option<Ending> {
     match &did.settled {
-        Some(kept) => Some(kept.settled().ending),
+        Some(kept) => Some(kept.ending()),
         None => None,
     }
 }

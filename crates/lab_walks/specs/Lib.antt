@@ -3,4 +3,6 @@ pub mod FramesLaws
 pub mod Lists
 pub mod ListsLaws
 pub mod Orders
+pub mod Outcomes
+pub mod Signs
 pub mod Walks

@@ -1,4 +1,4 @@
--- The orders in which the tasks of a script can work, and what comes out of each.
+-- The orders in which the tasks of a script can work.
 use Rattle.std.specs.Prelude.{◌≡◌, ℕ, zero, suc, ◌-◌, Bool, true, false, ◌&&◌, ◌||◌, not, ◌==◌, List, [], ◌∷◌, slice_get, Option, Some, None, if◌then◌else◌}
 use Rattle.std.specs.List.{list_any}
 use Rattle.std.specs.FinMap.{find}
@@ -7,12 +7,10 @@ use Rattle.kdcs_types.specs.declared.key.ServiceId.{ServiceId}
 use Rattle.kdcs_types.specs.Keys.{area_eq, id_cmp}
 use Rattle.abstract_monitor.specs.declared.command.Command.{Command}
 use Rattle.abstract_monitor.specs.declared.command.Command.TheVariants.{Input, Tick, Run, Turn, Drop, Print, PrintLast, Restart}
-use Rattle.abstract_monitor.specs.Bytes.{Bytes}
-use Rattle.abstract_monitor.specs.Commands.{ScriptStep, acts_of, command_of, state_after}
-use Rattle.abstract_monitor.specs.Listing.{listing}
+use Rattle.abstract_monitor.specs.Commands.{ScriptStep, command_of}
 use Rattle.abstract_monitor.specs.Locks.{Waiting}
 use Rattle.abstract_monitor.specs.State.{Application, State}
-use Rattle.abstract_monitor.specs.Trace.{bytes_of, history}
+use Rattle.abstract_monitor.specs.Trace.{history}
 use Rattle.abstract_monitor.specs.Turns.{turn_of}
 
 -- ---- the effect of a turn
@@ -129,10 +127,3 @@ turned_script (Restart ∷ cs) order = Restart ∷ turned_script cs order
 -- its steps
 abbrev pub order_steps : Application → List Command → State → List ℕ → List ScriptStep
 order_steps app cs s order = history app s (turned_script cs order)
-
--- ---- outcomes
-
--- these bytes are sent, and these are the lines of the tables at the end
-pub record HasOutcome (app : Application) (cs : List Command) (s : State) (order : List ℕ) (sent tables : Bytes) : Type 0 where
-  pub sent_is : sent ≡ bytes_of (acts_of (order_steps app cs s order))
-  pub tables_are : tables ≡ listing (state_after s (order_steps app cs s order)).tables

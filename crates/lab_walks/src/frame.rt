@@ -28,11 +28,6 @@ impl Frame {
     {
         self.choices.as_slice()[self.at]
     }
-
-    /// 0 ends the RUN here while turns of tasks would have an effect.
-    pub fn is_spent(&self) -> bool {
-        self.choices.len() > 1
-    }
 }
 
 /// The turns of these frames.

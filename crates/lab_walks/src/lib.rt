@@ -1,4 +1,5 @@
-//! The orders in which the tasks of a script can work, its walks, and what a search through the walks decides.
+//! The orders in which the tasks of a script can work, its walks with their signs, and what a search through the walks
+//! decides.
 //!
 //! It stands on the definitions of the monitor and on the laws of states. To a search it promises that a turn has an effect
 //! where it moves something, or its request waits otherwise after it; when 0 may end a RUN; and that the next choice leaves
@@ -7,6 +8,8 @@
 
 mod effect;
 mod frame;
+mod signs;
 
 pub use effect::shows_effect;
 pub use frame::{Frame, Turns, advance, ends, turns_of};
+pub use signs::Signs;

@@ -47,11 +47,6 @@ next_within limit n w = by (n == limit) refl
     by true e = (omega arith, omega (arith, w.0, w.1))
     by false e = let a : n ≤ limit = w.1 in (omega arith, grind arith)
 
--- the turns in a row that moved nothing stay fewer than the tasks until they are as many
-pub row_within : (moved : Bool) (unmoved limit : ℕ) → unmoved < limit → (in_a_row moved unmoved ≡ limit → ⊥) → in_a_row moved unmoved < limit
-row_within true unmoved limit few ne = omega (arith, few)
-row_within false unmoved limit few ne = omega (arith, few, ne)
-
 -- ---- a command
 
 run_steps : (app : Application) (s : State) (turns : ℕ) → steps_of app s (Run turns) ≡ rotated app turns false s 1 0

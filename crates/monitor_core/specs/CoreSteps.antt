@@ -1,5 +1,5 @@
 -- A core between two steps of a script: what its store keeps, and what its turns and commands are as steps.
-use Rattle.std.specs.Prelude.{◌≡◌, ◌-◌, ℕ, List, [], ◌∷◌, Some, None, slice_get}
+use Rattle.std.specs.Prelude.{◌≡◌, ◌-◌, ◌+◌, ◌<◌, ℕ, List, [], ◌∷◌, replicate, Some, None, slice_get}
 use Rattle.kdcs_types.specs.Tables.{TableRows}
 use Rattle.abstract_monitor.specs.declared.command.Command.{Command}
 use Rattle.abstract_monitor.specs.declared.command.Command.TheVariants.{Input, Tick, Run, Turn, Drop, Print, PrintLast, Restart}
@@ -25,9 +25,17 @@ command_steps c command = command_of c.application c.state command ∷ []
 abbrev pub IsFree : State → (task : ℕ) → Type 0
 IsFree s task = slice_get s.tasks (task - 1) ≡ Some None
 
+-- nor so many in a row, from this one on
+abbrev pub AreFree : State → (task count : ℕ) → Type 0
+AreFree s task count = (i : ℕ) → i < count → IsFree s (task + i)
+
 -- a free task, whichever it is, finds no work
 abbrev pub HasNoWork : Application → State → Type 0
 HasNoWork app s = (task : ℕ) → took app s task (pick app s) ≡ unmoved s
+
+-- so many turns that move nothing, as steps
+abbrev pub idle_steps : State → (turns : ℕ) → List ScriptStep
+idle_steps s turns = replicate turns (turned_step (unmoved s))
 
 -- how many turns and commands a command makes at most
 abbrev pub turns_of : Command → ℕ

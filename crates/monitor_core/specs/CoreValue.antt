@@ -19,3 +19,9 @@ core_value p = record { application = app_of p; state = state_of p; steps = p.st
 pub record OneStep (before after : CoreValue) : Type 0 where
   pub application : after.application ≡ before.application
   pub steps : after.steps ≡ before.steps + 1
+
+-- the same application and state, and so many steps more
+pub record Rested (before after : CoreValue) (turns : ℕ) : Type 0 where
+  pub application : after.application ≡ before.application
+  pub state : after.state ≡ before.state
+  pub steps : after.steps ≡ before.steps + turns

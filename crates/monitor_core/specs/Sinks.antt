@@ -1,8 +1,8 @@
 -- What a sink takes of the steps of a script.
-use Rattle.std.specs.Prelude.{◌≡◌, ◌+◌, ℕ, Bool, List, [], ◌∷◌, ◌++◌, take}
+use Rattle.std.specs.Prelude.{◌≡◌, ◌+◌, ◌-◌, ◌≤◌, ◌==◌, ℕ, Bool, true, false, List, [], ◌∷◌, ◌++◌, take}
 use Rattle.abstract_monitor.specs.declared.command.Command.{Command}
 use Rattle.abstract_monitor.specs.declared.command.Command.TheVariants.{Restart}
-use Rattle.abstract_monitor.specs.Commands.{ScriptStep, state_after, steps_of}
+use Rattle.abstract_monitor.specs.Commands.{ScriptStep, next_task, rotated, state_after, steps_of}
 use Rattle.abstract_monitor.specs.Trace.{history}
 use Rattle.abstract_monitor.specs.Turns.{turn_of}
 use Rattle.monitor_core.specs.CoreValue.{CoreValue}
@@ -21,6 +21,19 @@ pub record DidTurn (c : CoreValue) (task : ℕ) (d : CoreValue) (moved : Bool) :
   pub moved_is : moved ≡ (turn_of c.application c.state task).moved
   pub state : d.state ≡ (turn_of c.application c.state task).after
   pub steps : d.steps ≡ c.steps + 1
+
+-- how many turns in a row moved nothing, after so many more, of which the last one moved something or none did
+abbrev pub row_after : (moved : Bool) → (unmoved turns : ℕ) → ℕ
+row_after true unmoved turns = 0
+row_after false unmoved turns = unmoved + turns
+
+-- these are the steps of so many turns in rotation, from this task on
+pub record DidTurns (c : CoreValue) (task : ℕ) (d : CoreValue) (turns : ℕ) (moved : Bool) (steps : List ScriptStep) : Type 0 where
+  pub some : 1 ≤ turns
+  pub counted : d.steps ≡ c.steps + turns
+  pub rotation : (unmoved : ℕ) → unmoved + turns ≤ c.application.generation.limits.tasks
+      → (ended : Bool) → (row_after moved unmoved turns == c.application.generation.limits.tasks) ≡ ended
+      → (left : ℕ) → rotated c.application (left + turns) false c.state task unmoved ≡ steps ++ rotated c.application left ended d.state (next_task c.application (task + (turns - 1))) (row_after moved unmoved turns)
 
 -- a script stopped within the command that comes after the first n: these were taken
 pub record Stopped {S E : Type 0} (took : S → CoreValue → List ScriptStep → S → CoreValue → Type 0) (failed : S → CoreValue → List ScriptStep → E → S → Type 0) (unopened : S → CoreValue → E → S → Type 0) (s : S) (c : CoreValue) (script : List Command) (n : ℕ) (e : E) (u : S) : Type 0 where

@@ -147,9 +147,12 @@ seated_class p task id x h at is = by (slice_get p.scheduler.places (task - 1)) 
         ∙ ap (λ (i : ServiceId). class_of p.generation (current_by (find id_cmp i (active_of p.active)))) same
         ∙ ap (λ (o : Option OpenTransaction). class_of p.generation (current_by o)) is
 
+pub all_more : (g : Generated) (n more : ℕ) (es : List (ServiceId × Boxed)) → Each (IsOwned g n) es → Each (IsOwned g (n + more)) es
+all_more g n more [] h = tt
+all_more g n more (e ∷ es) h = (record { id = h.0.id; nb = h.0.nb; counted = omega (arith, h.0.counted) }, all_more g n more es h.1)
+
 pub one_more : (g : Generated) (n : ℕ) (es : List (ServiceId × Boxed)) → Each (IsOwned g n) es → Each (IsOwned g (n + 1)) es
-one_more g n [] h = tt
-one_more g n (e ∷ es) h = (record { id = h.0.id; nb = h.0.nb; counted = omega (arith, h.0.counted) }, one_more g n es h.1)
+one_more g n es h = all_more g n 1 es h
 
 -- ---- the parts
 

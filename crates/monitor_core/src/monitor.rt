@@ -1,5 +1,5 @@
 //! A monitor between two commands.
-ghost use Rattle.std.specs.{Prelude.{◌≡◌, ◌<◌, ◌^◌, IfOk, IsTrue}, Bool.{OnTrue}};
+ghost use Rattle.std.specs.Prelude.{◌≡◌, ◌<◌, ◌≤◌, ◌+◌, ◌^◌, ℕ, IfOk, IsTrue};
 ghost use Rattle.application_types.specs.Soundness.{AreLimits};
 ghost use Rattle.application_types.specs.Statements.{IsWithin};
 ghost use Rattle.kdcs_types.specs.Tables.{IsSortedTables};
@@ -10,12 +10,12 @@ ghost use Rattle.abstract_monitor.specs.{CommandsOf.{IsCommandOf, is_pterm}, Com
 ghost use Rattle.laws_of_runs.specs.{Access.{KeepsAccess}, QueueLaws.{KeepsQueues}, Replays.{AllReplay}, SerialLaws.{IsSerialStep}};
 ghost use Rattle.service_ends.specs.Ending.{turned_to};
 ghost use Rattle.monitor_core.specs.Commanding.{Comes, IsCoreCommand};
-ghost use Rattle.monitor_core.specs.{CoreSteps.{HasNoWork, IsFree}, CoreValue.{OneStep, core_value}, Steps.{came_to}};
+ghost use Rattle.monitor_core.specs.{CoreSteps.{AreFree, HasNoWork}, CoreValue.{OneStep, Rested, core_value}, Steps.{came_to}};
 
 use crate::applying::apply;
 use crate::input::use_of;
 use crate::start::parts_of;
-use crate::turning::{count, is_free, turn};
+use crate::turning::{count, free_from, turn};
 use abstract_monitor::{Command, Use};
 use application_types::generation::Generation;
 use application_types::units::Units;
@@ -126,27 +126,28 @@ impl Core {
         Ok((Core { parts }, did))
     }
 
-    /// Whether the task, from 1 to TASKS, holds no service. It takes no memory.
-    pub fn is_free(&self, task: u16) -> bool
-        requires task { IsWithin 1 self.now.application.generation.limits.tasks task }
-        ensures { OnTrue result (IsFree self.now.state task) }
+    /// How many tasks hold no service in a row, from this one on, of at most so many that there are. It takes no memory.
+    pub fn free_from(&self, task: u16, most: u16) -> u16
+        requires task { 1 ≤ task }
+        requires within { task + most ≤ self.now.application.generation.limits.tasks + 1 }
+        ensures most { result ≤ most }
+        ensures free { AreFree self.now.state task result }
     {
-        is_free(&self.parts, task)
+        free_from(&self.parts, task, most)
     }
 
-    /// One turn of a free task where there is no work: it is counted. Fewer than 10^18 turns and commands were done. It
-    /// takes no memory.
-    pub fn idle(self, task: u16) -> Core
-        requires free { IsFree self.state task }
+    /// The turns of so many tasks in a row, from this one on, which are free where there is no work: they are counted. At
+    /// most 10^18 turns and commands are done with them. It takes no memory.
+    pub fn idle(self, task: u16, turns: u16) -> Core
+        requires free { AreFree self.state task turns }
         requires none { HasNoWork self.application self.state }
-        requires steps { self.steps < 10 ^ 18 }
-        ensures exact { unmoved result.state ≡ turn_of self.application self.state task }
-        ensures same { result.state ≡ self.state }
-        ensures one { OneStep self result }
+        requires steps { self.steps + turns ≤ 10 ^ 18 }
+        ensures exact { (i : ℕ) → i < turns → turn_of self.application self.state (task + i) ≡ unmoved result.state }
+        ensures rested { Rested self result turns }
         ensures facts { HasFacts result.application result.state }
     {
         let mut parts = self.parts;
-        count(&mut parts);
+        count(&mut parts, turns);
         Core { parts }
     }
 

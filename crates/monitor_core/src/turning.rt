@@ -1,11 +1,11 @@
 //! One turn of a task.
-ghost use Rattle.std.specs.{Prelude.{◌≡◌, ◌+◌, ◌<◌, ◌^◌, IfOk, OnOk}, Bool.{OnTrue}, FinMap.{find}};
+ghost use Rattle.std.specs.{Prelude.{◌≡◌, ◌+◌, ◌<◌, ◌≤◌, ◌^◌, IfOk, OnOk}, FinMap.{find}};
 ghost use Rattle.application_types.specs.Statements.{IsWithin};
 ghost use Rattle.kdcs_types.specs.Keys.{id_cmp};
 ghost use Rattle.abstract_monitor.specs.Turns.{turn_of, served};
 ghost use Rattle.service_ends.specs.Ending.{turned_to};
 ghost use Rattle.service_ends.specs.{Standing.{IsIndexed, state_of}, Whole.{IsWhole, app_of}};
-ghost use Rattle.monitor_core.specs.{CoreSteps.{IsFree}, Turning.{IsHeldBy}};
+ghost use Rattle.monitor_core.specs.{CoreSteps.{AreFree}, Turning.{IsHeldBy}};
 
 use crate::statement::next_statement;
 use crate::take::take;
@@ -46,27 +46,26 @@ fn serve(
     }
 }
 
-/// Whether the task, from 1 to TASKS, holds no service.
-pub(crate) fn is_free(parts: &MonitorParts, task: u16) -> bool
+/// How many tasks are free in a row, from this one on, of at most so many that there are.
+pub(crate) fn free_from(parts: &MonitorParts, task: u16, most: u16) -> u16
     requires whole { IsWhole parts.now }
-    requires task { IsWithin 1 parts.now.generation.limits.tasks task }
-    ensures { OnTrue result (IsFree (state_of parts.now) task) }
+    requires task { 1 ≤ task }
+    requires within { task + most ≤ parts.now.generation.limits.tasks + 1 }
+    ensures most { result ≤ most }
+    ensures free { AreFree (state_of parts.now) task result }
 {
-    match parts.scheduler.held_by(task) {
-        None => true,
-        Some(_) => false,
-    }
+    parts.scheduler.free_from(task, most)
 }
 
-/// A turn that moves nothing is counted. Fewer than 2^64 - 1 turns and commands were done.
-#[tactic(auto, using(crate::specs::CountedLaws::one_counted))]
-pub(crate) fn count(parts: &mut MonitorParts)
+/// So many turns that move nothing are counted. Fewer than 2^64 turns and commands are done with them.
+#[tactic(auto, using(crate::specs::CountedLaws::all_counted))]
+pub(crate) fn count(parts: &mut MonitorParts, turns: u16)
     requires whole { IsWhole parts.old }
-    requires steps { parts.old.steps + 1 < 2 ^ 64 }
-    ensures counted { parts.new ≡ record parts.old { steps = parts.old.steps + 1 } }
+    requires steps { parts.old.steps + turns < 2 ^ 64 }
+    ensures counted { parts.new ≡ record parts.old { steps = parts.old.steps + turns } }
     ensures whole { IsWhole parts.new }
 {
-    parts.steps += 1;
+    parts.steps += turns as u64;
 }
 
 /// One turn of a task, from 1 to TASKS: a free task takes work, another does the next statement of its service, or repeats

@@ -3,11 +3,11 @@
 //! It stands on the types of the monitor and on the definition of how a request is answered. To the layers above, its
 //! contract says that a request is answered so and changes the locks so, whatever the holders and the waits, that a
 //! deadlock is answered exactly where a chain of waits ends at the asker, and that each area is held once.
-ghost use Rattle.std.specs.{Prelude.{◌≡◌, ◌↔◌, false, IsTrue, IfOk, IfNone, IfSome, OnOk, OnErr, None, Some, ◌&&◌, if◌then◌else◌, ◌+◌, nat_le, length, option_copied}, FinMap.{find, is_sorted}};
+ghost use Rattle.std.specs.{Prelude.{◌≡◌, ◌↔◌, false, IsTrue, IfOk, IfNone, IfSome, OnOk, OnErr, None, Some, ◌&&◌, if◌then◌else◌, ◌+◌, nat_le, is_some, length, option_copied}, FinMap.{find, is_sorted}};
 ghost use Rattle.kdcs_types.specs.{declared.key.Area.{Area}, declared.key.ServiceId.{ServiceId}, Keys.{area_cmp, area_eq, id_cmp, id_eq}};
 ghost use Rattle.abstract_monitor.specs.declared.answer.LockAnswer.TheVariants as lock_answer;
-ghost use Rattle.abstract_monitor.specs.Locks.{holder, waits_for, since, is_deadlocked, answer_of, IsDeadlocked};
-ghost use Rattle.monitor_parts.specs.{Asked.{no_locks, asked, locks_after, holder_after, holds_area, unlocked, with_holder, without_wait, freed, other_than}, Index.{IsOpenTo}};
+ghost use Rattle.abstract_monitor.specs.Locks.{holder, holder as holder_of, waits_for, since, is_deadlocked, answer_of, IsDeadlocked};
+ghost use Rattle.monitor_parts.specs.{Asked.{no_locks, asked, locks_after, holder_after, holds_area, unlocked, with_holder, without_holder, without_wait, freed, other_than}, Index.{IsOpenTo}};
 
 use abstract_monitor::LockAnswer;
 use kd_base::OutOfMemory;
@@ -104,8 +104,10 @@ impl LockTable {
         ensures holders { IfOk result (λ answer. (a : Area) → holder self.new a ≡ holder_after answer who (area_eq a area) (holder self.old a)) }
         ensures err { OnErr result (self.new ≡ self.old) }
     {
-        let answer = self.answer(&who, &area, now, reswait);
-        self.record_answer(answer, &who, &area, now)?;
+        let holder = self.holder(&area);
+        let held = holder.is_some();
+        let answer = self.answer(&who, &area, holder, now, reswait);
+        self.record_answer(answer, &who, &area, held, now)?;
         Ok(answer)
     }
 
@@ -115,13 +117,20 @@ impl LockTable {
         ensures locks { self.new ≡ unlocked self.old who area.now }
         ensures holders { (a : Area) → holder self.new a ≡ (if result && area_eq a area.now then None else holder self.old a) }
     {
-        let holding = holding(&who, area);
         if self.holder(area) != Some(who) {
             return false;
         }
-        self.holders.remove(area);
-        self.held.remove(&holding);
+        self.give_back(&who, area);
         true
+    }
+
+    // The area is nobody's from now on.
+    fn give_back(&mut self, who: &ServiceId, area: &Area)
+        requires { IsTrue (holds_area self.old who.now area.now) }
+        ensures { self.new ≡ without_holder self.old area.now }
+    {
+        self.holders.remove(area);
+        self.held.remove(&holding(who, area));
     }
 
     /// Ends the wait of a service. It takes no memory.
@@ -142,7 +151,7 @@ impl LockTable {
     {
         self.waits.remove(&who);
         while let Some(area) = self.first_held(who) {
-            self.unlock(who, &area);
+            self.give_back(&who, &area);
         }
     }
 
@@ -156,10 +165,18 @@ impl LockTable {
         if holding.0 == who { holding.1 } else { None }
     }
 
-    fn answer(&self, who: &ServiceId, area: &Area, now: u64, reswait: u64) -> LockAnswer
+    fn answer(
+        &self,
+        who: &ServiceId,
+        area: &Area,
+        holder: Option<ServiceId>,
+        now: u64,
+        reswait: u64,
+    ) -> LockAnswer
+        requires { holder ≡ holder_of self.now area.now }
         ensures { result ≡ answer_of self.now reswait now who.now area.now }
     {
-        match self.holder(area) {
+        match holder {
             None => LockAnswer::Granted,
             Some(other) if other == *who => LockAnswer::Granted,
             Some(other) => refused(
@@ -175,9 +192,12 @@ impl LockTable {
         answer: LockAnswer,
         who: &ServiceId,
         area: &Area,
+        held: bool,
         now: u64,
     ) -> Result<(), OutOfMemory>
-        requires { answer ≡ lock_answer.Granted → IsOpenTo self.old who.now area.now }
+        requires open { answer ≡ lock_answer.Granted → IsOpenTo self.old who.now area.now }
+        requires held { held ≡ is_some (holder_of self.old area.now) }
+        requires once { IsTrue (is_sorted area_cmp self.old.holders) }
         ensures locks { OnOk result (self.new ≡ locks_after answer self.old now who.now area.now) }
         ensures err { OnErr result (self.new ≡ self.old) }
     {
@@ -186,7 +206,7 @@ impl LockTable {
                 let since = self.since(who, area, now);
                 return self.waits.put(*who, (*area, since));
             }
-            LockAnswer::Granted => self.grant(who, area)?,
+            LockAnswer::Granted => self.grant(who, area, held)?,
             LockAnswer::Busy | LockAnswer::Deadlock => {}
         }
         self.end_wait(*who);
@@ -194,12 +214,14 @@ impl LockTable {
     }
 
     // The area is the service's own from now on.
-    fn grant(&mut self, who: &ServiceId, area: &Area) -> Result<(), OutOfMemory>
-        requires { IsOpenTo self.old who.now area.now }
+    fn grant(&mut self, who: &ServiceId, area: &Area, held: bool) -> Result<(), OutOfMemory>
+        requires open { IsOpenTo self.old who.now area.now }
+        requires held { held ≡ is_some (holder_of self.old area.now) }
+        requires once { IsTrue (is_sorted area_cmp self.old.holders) }
         ensures locks { OnOk result (self.new ≡ with_holder self.old who.now area.now) }
         ensures err { OnErr result (self.new ≡ self.old) }
     {
-        if self.holder(area).is_some() {
+        if held {
             return Ok(());
         }
         self.held.put(holding(who, area), ())?;

@@ -7,7 +7,7 @@ use Rattle.kdcfile_layout.specs.declared.chain.Chain.{Chain}
 use Rattle.kdcfile_layout.specs.Layout.{Layout}
 use Rattle.kdcfile_layout.specs.Bound.{put_charge}
 use Rattle.page_drafts.specs.Drafts.{IsPlan, IsUnnamed}
-use Rattle.page_drafts.specs.Drafting.{Drafting, put_in, IsRemoved, IsPageWritten, IsSized, IsDraft, stale_pages}
+use Rattle.page_drafts.specs.Drafting.{Drafting, put_in, IsRemoved, IsSized, IsDraft, stale_pages}
 use Rattle.page_drafts.specs.Freed.{AreFreed, HasChainsOf, HasPagesOf, IsKeyIn, AreOnce}
 use Rattle.page_drafts.specs.Tables.{IsPlaceFor}
 
@@ -83,10 +83,6 @@ pub record PutsAll (size : ℕ) (plan : List ℕ) (changes : List Change) (d e :
   pub freed : (pool : ℕ) (items : List Record) (file : Option (List ℕ)) (from : Layout) → IsPlan size pool plan → AreOnce changes → IsDraft size pool items plan file d → IsUnnamed from plan → HasChainsOf from d.layout → HasFreed from plan d → HasFreed from plan e
 
 -- ---- the directory
-
--- a page that is not stale stays, and a stale one is written
-abbrev pub FreshensOne : ℕ → List ℕ → ℕ → Drafting → Drafting → Type 0
-FreshensOne size plan k d e = (At d.stale k false × (e ≡ d)) ⊎ (At d.stale k true × IsPageWritten size plan k d e)
 
 -- the first k pages are fresh, and those of them that were stale are on the plan
 pub record Freshens (size : ℕ) (plan : List ℕ) (k : ℕ) (d e : Drafting) : Type 0 where

@@ -4,7 +4,7 @@ use Rattle.std.proofs.Common.{◌≡◌, inl, inr, ⊎_elim, ℕ, ◌+◌, ◌*�
 use Rattle.std.proofs.Common.{arith}
 use Rattle.std.specs.Prelude.{set, IsTrue}
 use Rattle.std.specs.List.{count_by}
-use Rattle.std.proofs.lemmas.Bool.{cases_eq, false≢true}
+use Rattle.std.proofs.lemmas.Bool.{cases_eq, cases_lt, false≢true}
 use Rattle.std.proofs.lemmas.List.{take_more, take-append-drop, length-set, length-take, length-drop, get_or_default}
 use Rattle.std.proofs.lemmas.Option.{none-some, same_Some, slice_get-get_or}
 use Rattle.std.proofs.lemmas.List.Sums.{sum_by-append, sum_by-cons, sum_by-take-le}
@@ -22,12 +22,12 @@ use Rattle.page_drafts.specs.Counts.{if_any}
 use Rattle.page_drafts.specs.CountsLaws.{over_changed, ascending_changed, length_over}
 use Rattle.page_drafts.specs.Drafts.{IsUnnamed}
 use Rattle.page_drafts.specs.DraftStepsLaws.{next_there}
-use Rattle.page_drafts.specs.Drafting.{Drafting, new_chain, put_in, IsRemoved, IsPageWritten, IsDraft, stale_pages}
+use Rattle.page_drafts.specs.Drafting.{Drafting, new_chain, put_in, IsRemoved, IsPageWritten, IsSized, IsDraft, stale_pages}
 use Rattle.page_drafts.specs.Freed.{AreFreed, HasChainsOf, IsKeyIn, AreOnce}
 use Rattle.page_drafts.specs.FreedLaws.{slot_freed, page_freed}
 use Rattle.page_drafts.specs.DraftingLaws.{put_kept, removed_kept, page_kept, no_record, put_sized, removed_sized, put_stale, removed_stale, one_less}
 use Rattle.page_drafts.specs.Tables.{IsAbsent}
-use Rattle.page_drafts.specs.DraftRuns.{HasFreed, removed_all, is_removal, RemovesOne, RemovesAll, put_all, is_put, PutsOne, AreWide, HasRoom, PutsAll, FreshensOne, Freshens}
+use Rattle.page_drafts.specs.DraftRuns.{HasFreed, removed_all, is_removal, RemovesOne, RemovesAll, put_all, is_put, PutsOne, AreWide, HasRoom, PutsAll, Freshens}
 
 -- ---- what each step frees
 
@@ -230,27 +230,28 @@ module _ (size pool : ℕ) (block : IsBlockSize size) (items : List Record) (pla
   pub room_at : IsAbsent c.0 e.layout.slots → used e.layout.slots < length e.layout.slots
   room_at absent = room_here size pool block items plan changes d e room i c.0 v (same ∙ is ∙ get_or_default changes i c (c.0, Some v) lt) lt so_far absent
 
+-- pages that are not stale are passed over
+pub freshens_past : (size : ℕ) (plan : List ℕ) (k m : ℕ) (d e : Drafting) → k ≤ m → ((j : ℕ) → k ≤ j → j < m → At e.stale j false) → Freshens size plan k d e → Freshens size plan m d e
+freshens_past size plan k m d e le clean so_far = record {
+  draft = so_far.draft;
+  clean = λ j lt. ⊎_elim (λ below. so_far.clean j below) (λ above. clean j above lt) (cases_lt j k);
+  later = λ j b high at. so_far.later j b (omega (arith, le, high)) at;
+  written = λ j p lt stale at.
+      ⊎_elim
+      (λ below. so_far.written j p below stale at)
+      (λ above. absurd (false≢true (at_one e.stale j false true (clean j above lt) (so_far.later j true above stale))))
+      (cases_lt j k);
+  sized = so_far.sized;
+  weight = so_far.weight;
+  slots = so_far.slots;
+  directory = so_far.directory;
+  pages = λ j p high at. so_far.pages j p (omega (arith, le, high)) at;
+  freed = so_far.freed;
+}
+
 module _ (size : ℕ) (block : IsBlockSize size) (plan : List ℕ) (k : ℕ) (d e f : Drafting) (so_far : Freshens size plan k d e) (lt : k < length e.layout.directory) where
-  pub freshens_more : FreshensOne size plan k e f → Freshens size plan (k + 1) d f
-  freshens_more (inl (clean, same)) =
-      subst (λ (x : Drafting). Freshens size plan (k + 1) d x) (sym same)
-      (record {
-        draft = so_far.draft;
-        clean = λ j le. ⊎_elim (λ is. subst (λ (n : ℕ). At e.stale n false) (sym is) clean) (λ ne. so_far.clean j (omega (arith, le, ne))) (cases_eq j k);
-        later = λ j b le at. so_far.later j b (omega (arith, le)) at;
-        written = λ j p le stale at.
-            ⊎_elim
-            (λ is. absurd (false≢true (at_one e.stale k false true clean (so_far.later k true (omega arith) (subst (λ (n : ℕ). At d.stale n true) is stale)))))
-            (λ ne. so_far.written j p (omega (arith, le, ne)) stale at)
-            (cases_eq j k);
-        sized = so_far.sized;
-        weight = so_far.weight;
-        slots = so_far.slots;
-        directory = so_far.directory;
-        pages = λ j p le at. so_far.pages j p (omega (arith, le)) at;
-        freed = so_far.freed;
-      })
-  freshens_more (inr (stale, w)) =
+  pub freshens_more : At e.stale k true → IsPageWritten size plan k e f → Freshens size plan (k + 1) d f
+  freshens_more stale w =
       let there : k < length e.stale = at_within e.stale k true stale in
       record {
         draft = λ pool items file planned draft. page_kept size pool plan planned block items file e (so_far.draft pool items file planned draft) k f lt w;
@@ -276,6 +277,34 @@ module _ (size : ℕ) (block : IsBlockSize size) (plan : List ℕ) (k : ℕ) (d 
         freed = λ pool items file from planned draft apart old are.
             written_freed size pool items plan file e (so_far.draft pool items file planned draft) from apart k f w lt (λ p at. old k p (omega arith) (so_far.pages k p (omega arith) at)) (so_far.freed pool items file from planned draft apart old are);
       }
+
+-- the first stale page is written, and the pages before it are fresh
+pub freshens_next : (size : ℕ) (block : IsBlockSize size) (plan : List ℕ) (k : ℕ) (d e f : Drafting) → ((n : ℕ) × (n ≤ length d.layout.directory) × Freshens size plan n d e) → At e.stale k true → ((j : ℕ) → j < k → At e.stale j false) → IsPageWritten size plan k e f → (n : ℕ) × (n ≤ length d.layout.directory) × Freshens size plan n d f
+freshens_next size block plan k d e f (n, most, so_far) stale first w =
+    let there : k < length e.layout.directory = omega (arith, at_within e.stale k true stale, so_far.sized.stale) in
+    ⊎_elim
+    (λ below. absurd (false≢true (at_one e.stale k false true (so_far.clean k below) stale)))
+    (λ above. (k + 1, omega (arith, there, so_far.directory), freshens_more size block plan k d e f (freshens_past size plan n k d e above (λ j low lt. first j lt) so_far) there stale w))
+    (cases_lt k n)
+
+-- nothing is written yet
+pub freshens_none : (size : ℕ) (plan : List ℕ) (d : Drafting) → IsSized size d → Freshens size plan 0 d d
+freshens_none size plan d sized = record {
+  draft = λ pool items file planned draft. draft;
+  clean = λ j lt. absurd (omega (arith, lt));
+  later = λ j b le at. at;
+  written = λ j p lt stale at. absurd (omega (arith, lt));
+  sized = sized;
+  weight = refl;
+  slots = refl;
+  directory = refl;
+  pages = λ j p le at. at;
+  freed = λ pool items file from planned draft apart old are. are;
+}
+
+-- a page that is written is stale no more
+pub fewer_stale : (size : ℕ) (plan : List ℕ) (k : ℕ) (e f : Drafting) → At e.stale k true → IsPageWritten size plan k e f → stale_pages f + 1 ≡ stale_pages e
+fewer_stale size plan k e f stale w = omega (arith, one_less e.stale k stale (at_within e.stale k true stale), ap (λ (t : List Bool). count_by (λ b. b) t) w.stale)
 
 -- while a page is stale, there is a page of the plan for it
 pub page_left : (plan : List ℕ) (k : ℕ) (d e : Drafting) → e.taken + stale_pages e ≡ d.taken + stale_pages d → d.taken + stale_pages d ≤ length plan → At e.stale k true → e.taken < length plan

@@ -17,6 +17,8 @@ pub mod Passes
 pub mod PassesLaws
 pub mod Prepared
 pub mod PreparedLaws
+pub mod Stale
+pub mod StaleLaws
 pub mod Tables
 pub mod TablesLaws
 pub mod Undoing

@@ -370,3 +370,17 @@ module _ (slots : List (Option Chain)) (free : List ℕ) (s : ℕ) (lt : s < len
   pub free_more : (o : Option Chain) (now : List ℕ) → At slots s o → (o ≡ None → now ≡ free ++ s ∷ []) → ((c : Chain) → o ≡ Some c → now ≡ free) → IsFreeFrom slots now s
   free_more None now at none some = subst (λ (l : List ℕ). IsFreeFrom slots l s) (sym (none refl)) (free_with at)
   free_more (Some c) now at none some = subst (λ (l : List ℕ). IsFreeFrom slots l s) (sym (some c refl)) (free_without c at)
+
+-- ---- a table of slots
+
+-- the slots, with an index of them all and a list of all that are free
+pub indexed_whole : (slots : List (Option Chain)) (index : Index) (free : List ℕ) → IsIndexedTo slots index (length slots) → IsFreeFrom slots free 0 → IsIndexed (record { slots = slots; index = index; free = free }) []
+indexed_whole slots index free are frees = record {
+  there = λ k s is. (are.found k s is).1;
+  found = λ k s is. inl (are.found k s is).0;
+  kept = λ s c at. are.kept s c at (at_within slots s (Some c) at);
+  unused = λ n s at. (frees.unused n s at).0;
+  distinct = frees.distinct;
+  count = frees.count;
+  ascending = are.ascending;
+}

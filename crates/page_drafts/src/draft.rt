@@ -1,5 +1,5 @@
 //! A commit that is being prepared: the next layout, and the pages that are written for it.
-ghost use Rattle.std.specs.Prelude.{◌≡◌, ◌≤◌, ◌<◌, ◌+◌, ◌*◌, ◌/◌, ◌^◌, min, true, false, List, ℕ, Some, length, All, IfOk, IfErr, OnOk};
+ghost use Rattle.std.specs.Prelude.{◌≡◌, ◌≤◌, ◌<◌, ◌+◌, ◌*◌, ◌/◌, ◌^◌, min, true, false, List, ℕ, Some, length, All, IfOk, OnOk};
 ghost use Rattle.kd_records.specs.Contents.{Record, Change, IsRecord};
 ghost use Rattle.kd_records.specs.Charge.{IsBlockSize, charge_of, total_charge};
 ghost use Rattle.kdcfile_layout.specs.Places.{At};
@@ -8,9 +8,10 @@ ghost use Rattle.kdcfile_layout.specs.Bound.{charge_put, put_charge};
 ghost use Rattle.page_drafts.specs.Tables.{IsPlaceFor, IsAbsent};
 ghost use Rattle.page_drafts.specs.DraftSteps.{next_pages};
 ghost use Rattle.page_drafts.specs.Drafting.{Drafting, put_in, touched, unprepared, IsRemoved, IsPageWritten, IsSized, stale_pages};
-ghost use Rattle.page_drafts.specs.DraftRuns.{RemovesOne, RemovesAll, PutsOne, PutsAll, HasRoom, AreWide, FreshensOne, Freshens};
+ghost use Rattle.page_drafts.specs.DraftRuns.{RemovesOne, RemovesAll, PutsOne, PutsAll, HasRoom, AreWide, Freshens};
 ghost use Rattle.page_drafts.specs.{Prepared.{CanPrepare, Prepared}, WholeDrafts.{unwritten, puts_of, CanPrepareWhole, PreparedWhole}};
 
+use crate::stale::StalePages;
 use crate::table::Table;
 use crate::table_draft::TableDraft;
 use kd_base::{Bytes, OutOfMemory};
@@ -26,7 +27,7 @@ use std::marker::Model;
 pub struct Draft {
     directory: Vec<u32>,
     table: TableDraft,
-    stale: Vec<bool>,
+    stale: StalePages,
     writes: Vec<PageWrite>,
     taken: usize,
     freed: Vec<u32>,
@@ -49,7 +50,7 @@ impl Model for Draft {
 
     ghost Value = { Drafting };
 
-    ghost view = { λ d. record { layout = record { directory = d.directory.items; slots = d.table.slots }; stale = d.stale.items; writes = d.writes.items; taken = d.taken; freed = d.freed.items; before = d.table.before; long = d.long } };
+    ghost view = { λ d. record { layout = record { directory = d.directory.items; slots = d.table.slots }; stale = d.stale; writes = d.writes.items; taken = d.taken; freed = d.freed.items; before = d.table.before; long = d.long } };
 }
 
 /// So many pages of the plan, from this one on.
@@ -64,12 +65,13 @@ fn planned(alloc: Global, plan: &[u32], from: usize, count: usize) -> Result<Pag
 
 impl Draft {
     // The directory page of a slot is stale.
-    fn touch(&mut self, size: u32, place: usize)
+    fn touch(&mut self, size: u32, place: usize) -> Result<(), OutOfMemory>
         requires size { IsBlockSize size }
         requires there { place / (size / 32) < length self.old.stale }
-        ensures { self.new ≡ touched size place self.old }
+        ensures ok { OnOk result (self.new ≡ touched size place self.old) }
+        ensures before { self.new.before ≡ self.old.before }
     {
-        self.stale[place / (size as usize / 32)] = true;
+        self.stale.mark(place / (size as usize / 32))
     }
 
     // Gives a key this value, on the next pages of the plan.
@@ -95,7 +97,7 @@ impl Draft {
         let chain = Chain { key, pages };
         put_chain(alloc, size, self.long, &chain, value, &mut self.writes)?;
         let place = self.table.put(chain, &mut self.freed)?;
-        self.touch(size, place);
+        self.touch(size, place)?;
         self.taken += count;
         Ok(())
     }
@@ -108,7 +110,7 @@ impl Draft {
         ensures before { self.new.before ≡ self.old.before }
     {
         if let Some(place) = self.table.remove(key, &mut self.freed)? {
-            self.touch(size, place);
+            self.touch(size, place)?;
         }
         Ok(())
     }
@@ -137,7 +139,7 @@ impl Draft {
         })?;
         self.freed.push(self.directory[k])?;
         self.directory[k] = page;
-        self.stale[k] = false;
+        self.stale.clear(k);
         self.taken += 1;
         Ok(())
     }
@@ -245,30 +247,7 @@ impl Draft {
         Ok(())
     }
 
-    // Writes the k-th page of the directory, if it is stale.
-    fn freshen(
-        &mut self,
-        alloc: Global,
-        size: u32,
-        plan: &[u32],
-        k: usize,
-    ) -> Result<(), OutOfMemory>
-        requires size { IsBlockSize size }
-        requires sized { IsSized size self.old }
-        requires there { k < length self.old.layout.directory }
-        requires enough { At self.old.stale k true → self.old.taken < length plan.now }
-        requires slots { k * (size / 32) + size / 32 ≤ length self.old.layout.slots }
-        ensures ok { OnOk result (FreshensOne size plan.now k self.old self.new) }
-        ensures before { self.new.before ≡ self.old.before }
-    {
-        if self.stale[k] {
-            self.put_directory_page(alloc, size, plan, k)
-        } else {
-            Ok(())
-        }
-    }
-
-    // Writes the stale pages of the directory.
+    // Writes the stale pages of the directory, from the first one on.
     fn freshen_all(&mut self, alloc: Global, size: u32, plan: &[u32]) -> Result<(), OutOfMemory>
         requires size { IsBlockSize size }
         requires sized { IsSized size self.old }
@@ -276,14 +255,14 @@ impl Draft {
         ensures ok { OnOk result (Freshens size plan.now (length self.old.layout.directory) self.old self.new) }
         ensures before { self.new.before ≡ self.old.before }
     {
-        for k in 0..self.directory.len() {
-            self.freshen(alloc, size, plan, k)?;
+        while let Some(k) = self.stale.first() {
+            self.put_directory_page(alloc, size, plan, k)?;
         }
         Ok(())
     }
 
     /// Makes the changes of a patch: what it removes first, so that its slots are free for what it puts. It costs what the
-    /// changes are, with the slots of each page of the directory that they touch, and goes once over the directory's pages.
+    /// changes are, with the slots of each page of the directory that they touch.
     pub fn prepare(
         &mut self,
         alloc: Global,
@@ -332,13 +311,19 @@ impl Draft {
     pub fn unwritten(alloc: Global, directory: Vec<u32>, table: Table) -> Result<Draft, OutOfMemory>
         ensures { IfOk result (λ d. d ≡ unwritten (record { directory = directory.items; slots = table })) }
     {
-        let stale = vec![in alloc; true; directory.len()]?;
+        let stale = StalePages::all(alloc, directory.len())?;
         Ok(Draft::begun(alloc, directory, table, stale, 0))
     }
 
     // Nothing is prepared yet. It takes no memory.
-    fn begun(alloc: Global, directory: Vec<u32>, table: Table, stale: Vec<bool>, long: u64) -> Draft
-        ensures { result ≡ record (unprepared long (record { directory = directory.items; slots = table })) { stale = stale.items } }
+    fn begun(
+        alloc: Global,
+        directory: Vec<u32>,
+        table: Table,
+        stale: StalePages,
+        long: u64,
+    ) -> Draft
+        ensures { result ≡ record (unprepared long (record { directory = directory.items; slots = table })) { stale = stale } }
     {
         Draft {
             directory,
@@ -352,16 +337,12 @@ impl Draft {
     }
 
     /// A draft that begins from the layout of a directory with these pages and slots, in a file that has `long` bytes: of a
-    /// record's page that lies within them, it writes no more than what the page says. Where memory runs out, it gives the
-    /// slots back.
-    pub fn new(alloc: Global, directory: Vec<u32>, table: Table, long: u64) -> Result<Draft, Table>
-        ensures ok { IfOk result (λ d. d ≡ unprepared long (record { directory = directory.items; slots = table })) }
-        ensures err { IfErr result (λ kept. kept ≡ table) }
+    /// record's page that lies within them, it writes no more than what the page says. It takes no memory.
+    pub fn new(alloc: Global, directory: Vec<u32>, table: Table, long: u64) -> Draft
+        ensures { result ≡ unprepared long (record { directory = directory.items; slots = table }) }
     {
-        let Ok(stale) = vec![in alloc; false; directory.len()] else {
-            return Err(table);
-        };
-        Ok(Draft::begun(alloc, directory, table, stale, long))
+        let stale = StalePages::none(alloc, directory.len());
+        Draft::begun(alloc, directory, table, stale, long)
     }
 
     /// The slots as they were before. It takes no memory, and costs as much as the changes did.

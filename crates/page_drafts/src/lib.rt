@@ -10,6 +10,7 @@
 
 mod draft;
 mod parts;
+mod stale;
 mod table;
 mod table_draft;
 

@@ -8,6 +8,9 @@ use kd_base::{Bytes, Name, OutOfMemory};
 use kdcs_types::{JobValue, Row, Service, Target};
 use std::alloc::Global;
 
+/// So many bytes a job's value has before its message.
+const JOB_HEAD: usize = 37;
+
 fn put_target(to: &Target, w: &mut Bytes) -> Result<(), OutOfMemory>
     ensures { OnOk result (w.new ≡ w.old ++ target_bytes to.now) }
 {
@@ -36,7 +39,8 @@ pub(crate) fn job_value(alloc: Global, value: &JobValue) -> Result<Bytes, OutOfM
     requires { length (job_bytes value.now) < 2 ^ 32 }
     ensures { IfOk result (λ bytes. bytes ≡ job_bytes value.now) }
 {
-    let mut w = Bytes::new(alloc);
+    let length = value.message.len().saturating_add(JOB_HEAD);
+    let mut w = Bytes::from_vec(Vec::with_capacity(alloc, length)?);
     put_target(&value.to, &mut w)?;
     put_times(value, &mut w)?;
     w.put_name(value.user)?;

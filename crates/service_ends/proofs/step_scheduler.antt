@@ -4,4 +4,5 @@ pub mod Indexed
 pub mod Marked
 pub mod Allowed
 pub mod Counts
+pub mod FreePlaces
 pub mod Arrived

@@ -5,7 +5,7 @@ ghost use Rattle.abstract_monitor.specs.{Endings.{broken, durable}, Statements.{
 ghost use Rattle.open_transaction.specs.Transactions.{transaction_of};
 ghost use Rattle.sync_points.specs.PointChanges.{end_changes, end_writes};
 
-use crate::kept::{KeptRecord, kept_record};
+use crate::kept::KeptRecord;
 use crate::writes::{real_of, write_fate, write_service};
 use application_types::generation::Generation;
 use kd_base::OutOfMemory;
@@ -64,6 +64,5 @@ pub fn broken(
     ensures kept { IfOk result (λ ended. ended.1 ≡ kept_record transaction.value.id (transaction_of transaction.value) ending) }
 {
     let changes = end_changes(alloc, generation, tables, &transaction)?;
-    let kept = kept_record(alloc, transaction, ending)?;
-    Ok((changes, kept))
+    Ok((changes, KeptRecord::of(transaction, ending)))
 }

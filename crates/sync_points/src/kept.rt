@@ -10,41 +10,32 @@ use std::alloc::Global;
 use std::marker::Model;
 use std::mem;
 
-/// What a transaction keeps for its replay, in a box, since it is handed on through each turn. Contracts see what is kept.
+/// What a transaction that ended keeps for its replay. It is made of the transaction where it is asked for, which most runs
+/// do not do. Contracts see what is kept.
 pub struct KeptRecord {
-    settled: Box<Settled>,
+    transaction: Box<OpenTransaction>,
+    ending: Ending,
 }
 
 impl Drop for KeptRecord {
     fn drop(self) {
-        let KeptRecord { settled } = self;
-        let _ = settled;
+        let KeptRecord {
+            transaction,
+            ending,
+        } = self;
+        let _ = transaction;
+        let _ = ending;
     }
 }
 
 impl Model for KeptRecord {
     ghost use Rattle.kdcs_types.specs.declared.service.Settled.{Settled};
+    ghost use Rattle.abstract_monitor.specs.Statements.{kept_record};
+    ghost use Rattle.open_transaction.specs.Transactions.{boxed_transaction};
 
     ghost Value = { Settled };
 
-    ghost view = { λ k. k.settled.value };
-}
-
-impl KeptRecord {
-    /// It takes no memory.
-    pub fn settled(&self) -> &Settled
-        ensures { result.now ≡ self.now }
-    {
-        &self.settled
-    }
-
-    /// It takes no memory.
-    pub fn into_settled(self) -> Settled
-        ensures { result ≡ self }
-    {
-        let KeptRecord { settled } = self;
-        Box::into_inner(settled)
-    }
+    ghost view = { λ k. kept_record k.transaction.value.id (boxed_transaction k.transaction) k.ending };
 }
 
 fn put_first(parts: &mut Vec<Bytes>, alloc: Global, name: Name) -> Result<(), OutOfMemory>
@@ -68,24 +59,58 @@ fn inputs_behind(
     Ok(Parts::from_vec(kept))
 }
 
-pub(crate) fn kept_record(
+fn settled_of(
     alloc: Global,
     mut transaction: Box<OpenTransaction>,
     ending: Ending,
-) -> Result<KeptRecord, OutOfMemory>
+) -> Result<Settled, OutOfMemory>
     ensures { IfOk result (λ kept. kept ≡ kept_record transaction.value.id (transaction_of transaction.value) ending) }
 {
     let inputs = mem::replace(&mut transaction.inputs, Parts::new(alloc));
     let inputs = inputs_behind(alloc, transaction.first, transaction.lterm, inputs)?;
-    let settled = Settled {
+    Ok(Settled {
         service: transaction.id,
         began: transaction.began.take(),
         inputs,
         notes: mem::replace(&mut transaction.notes, Notes::new(alloc)),
         statements: transaction.statements,
         ending,
-    };
-    Ok(KeptRecord {
-        settled: Box::new(alloc, settled)?,
     })
+}
+
+impl KeptRecord {
+    /// It takes no memory.
+    pub(crate) fn of(transaction: Box<OpenTransaction>, ending: Ending) -> KeptRecord
+        ensures { result ≡ kept_record transaction.value.id (transaction_of transaction.value) ending }
+    {
+        KeptRecord {
+            transaction,
+            ending,
+        }
+    }
+
+    /// How the transaction ended. It takes no memory.
+    pub fn ending(&self) -> Ending
+        ensures { result ≡ self.now.ending }
+    {
+        self.ending
+    }
+
+    /// What its replay has to be told. It takes no memory.
+    pub fn notes(&self) -> &Notes
+        ensures { result.now ≡ self.now.notes }
+    {
+        &self.transaction.notes
+    }
+
+    /// All that is kept.
+    pub fn into_settled(self, alloc: Global) -> Result<Settled, OutOfMemory>
+        ensures { IfOk result (λ settled. settled ≡ self) }
+    {
+        let KeptRecord {
+            transaction,
+            ending,
+        } = self;
+        settled_of(alloc, transaction, ending)
+    }
 }

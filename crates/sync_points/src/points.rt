@@ -9,7 +9,7 @@ ghost use Rattle.service_parts.specs.Areas.{changes_of};
 ghost use Rattle.sync_points.specs.{Answers.{answer_by, point_by, refused_by}, PointChanges.{changes_with, job_changes, own_job_changes, service_changes}};
 
 use crate::gssbs::has_too_many_gssbs;
-use crate::kept::{KeptRecord, kept_record};
+use crate::kept::KeptRecord;
 use crate::pool::is_pool_full;
 use crate::row::row_after;
 use crate::writes::{real_of, write_own_job, write_service};
@@ -185,7 +185,7 @@ pub fn settle(
     match point_of(alloc, generation, tables, charge, &transaction, outcome)? {
         Point::Refused(cause) => Ok(SettleAnswer::Refused(cause, transaction)),
         Point::Passed(changes, row) => {
-            let kept = kept_record(alloc, transaction, Ending::Synced)?;
+            let kept = KeptRecord::of(transaction, Ending::Synced);
             Ok(SettleAnswer::Synced(changes, row, kept))
         }
     }

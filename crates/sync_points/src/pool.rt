@@ -6,7 +6,7 @@ ghost use Rattle.table_fit.specs.Pages.{FitPool, leaves_short};
 
 use application_types::generation::Generation;
 use kdcs_types::{Changes, Tables};
-use table_fit::row_charges::charge_after;
+use table_fit::row_charges::takes_more;
 
 /// The durable rows after these changes would take more pages than the pool has, where they take `charge` before them.
 /// It costs a look-up for each change.
@@ -22,5 +22,5 @@ pub(crate) fn is_pool_full(
     requires short { IsTrue (list_all (leaves_short generation.now) changes.now.items) }
     ensures { result ≡ nat_lt generation.now.limits.pgpool (total_charge generation.now.limits.blksize (durable generation.now (changed tables.now changes.now))) }
 {
-    charge_after(generation, tables, changes, charge) > u128::from(generation.max().pgpool)
+    takes_more(generation, tables, changes, charge, generation.max().pgpool)
 }

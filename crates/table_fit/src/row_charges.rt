@@ -2,14 +2,14 @@
 //!
 //! It stands on what a row is charged, on service_parts, which says what outlives a stop, and on the definitions of
 //! laws_of_states. To synchronisation points and to the state of a monitor, its contract says that `charge_after` is
-//! the sum over all durable rows after the changes, where the sum before them is known. The law under it holds of any
-//! number that each row adds to a whole.
-ghost use Rattle.std.specs.{Prelude.{◌≡◌, IsTrue, length, option_copied, true}, Option.{option_map}, List.{list_all}};
+//! the sum over all durable rows after the changes, where the sum before them is known, and that `takes_more` is a test of
+//! it. The law under it holds of any number that each row adds to a whole.
+ghost use Rattle.std.specs.{Prelude.{◌≡◌, ◌+◌, ◌<◌, ◌^◌, IsTrue, length, nat_lt, option_copied, true}, Option.{option_map}, List.{list_all}};
 ghost use Rattle.kd_records.specs.Charge.{IsBlockSize};
 ghost use Rattle.kdcs_types.specs.Tables.{AreChanges, change_key, changed, row_at};
 ghost use Rattle.laws_of_states.specs.DurableKeys.{key_is_durable};
 ghost use Rattle.abstract_monitor.specs.{Charges.{total_charge}, Endings.{durable}};
-ghost use Rattle.table_fit.specs.{Pages.{FitPool, is_short, leaves_short, row_charge}, Weights.{row_left, row_weight}};
+ghost use Rattle.table_fit.specs.{Pages.{FitPool, is_short, leaves_short, row_charge}, Weights.{made_weight, replaced_weight, row_left, row_weight}};
 ghost use Rattle.table_fit.specs.Lengths.{value_length};
 
 use crate::{job_length, service_length, value_length};
@@ -90,6 +90,32 @@ fn replaced(generation: &Generation, tables: &Tables, change: &Change) -> u64
     }
 }
 
+// The pages of the rows that the changes make.
+fn made_by(generation: &Generation, changes: &[Change]) -> u128
+    requires { IsTrue (list_all (leaves_short generation.now) changes.now) }
+    ensures sum { result ≡ made_weight (row_charge generation.now) changes.now }
+    ensures few { result + 2 ^ 64 < 2 ^ 128 }
+{
+    let mut pages = 0;
+    for change in changes {
+        pages += u128::from(made(generation, change));
+    }
+    pages
+}
+
+// The pages of the rows that are at their keys. It costs a look-up for each change.
+fn replaced_by(generation: &Generation, tables: &Tables, changes: &[Change]) -> u128
+    requires { FitPool generation.now tables.now }
+    ensures { result ≡ replaced_weight (row_charge generation.now) tables.now changes.now }
+{
+    let _limits = generation.max(); // for the proof
+    let mut pages = 0;
+    for change in changes {
+        pages += u128::from(replaced(generation, tables, change));
+    }
+    pages
+}
+
 /// How many pages the durable rows take together after these changes, where they take `charge` before them, and no more
 /// than the pool has. The rows that the changes make may take more than that. It costs a look-up for each change.
 pub fn charge_after(
@@ -105,12 +131,27 @@ pub fn charge_after(
     ensures { result ≡ total_charge generation.now.limits.blksize (durable generation.now (changed tables.now changes.now)) }
 {
     let _clock = tables.clock(); // for the proof
-    let _limits = generation.max(); // for the proof
-    let mut more = 0;
-    let mut less = 0;
-    for change in changes.items.as_slice() {
-        more += u128::from(made(generation, change));
-        less += u128::from(replaced(generation, tables, change));
-    }
-    u128::from(charge) + more - less
+    let items = changes.items.as_slice();
+    u128::from(charge) + made_by(generation, items) - replaced_by(generation, tables, items)
+}
+
+/// Whether the durable rows take more than so many pages after these changes, where they take `charge` before them. Nothing
+/// is looked up where there is room for all that the changes make.
+pub fn takes_more(
+    generation: &Generation,
+    tables: &Tables,
+    changes: &Changes,
+    charge: u64,
+    pages: u32,
+) -> bool
+    requires changes { AreChanges changes.now.items }
+    requires charge { charge ≡ total_charge generation.now.limits.blksize (durable generation.now tables.now) }
+    requires fit { FitPool generation.now tables.now }
+    requires short { IsTrue (list_all (leaves_short generation.now) changes.now.items) }
+    ensures { result ≡ nat_lt pages (total_charge generation.now.limits.blksize (durable generation.now (changed tables.now changes.now))) }
+{
+    let _clock = tables.clock(); // for the proof
+    let most = u128::from(charge) + made_by(generation, changes.items.as_slice());
+    most > u128::from(pages)
+        && charge_after(generation, tables, changes, charge) > u128::from(pages)
 }

@@ -1,5 +1,5 @@
 //! The steps of a script, whose commits become entries.
-ghost use Rattle.std.specs.{Prelude.{◌≡◌}, Option.{option_map}};
+ghost use Rattle.std.specs.{Prelude.{◌≡◌, IfOk}, Option.{option_map}};
 ghost use Rattle.abstract_monitor.specs.{CommandsOf.{IsCommandOf}, Commands.{maker_of}};
 ghost use Rattle.trail_run.specs.{Entries.{by_of}, Running.{by_for, DidSteps, IsReady}, RunningLaws.{kept_goes}};
 
@@ -13,12 +13,12 @@ use std::alloc::Global;
 use sync_points::KeptRecord;
 
 // What made the commit of a turn: the transaction that it ended.
-fn maker_of(settled: Option<KeptRecord>) -> Option<By>
-    ensures { result ≡ option_map by_of (maker_of settled) }
+fn maker_of(alloc: Global, settled: Option<KeptRecord>) -> Result<Option<By>, OutOfMemory>
+    ensures { IfOk result (λ by. by ≡ option_map by_of (maker_of settled)) }
 {
     match settled {
-        Some(kept) => Some(By::Transaction(kept.into_settled())),
-        None => None,
+        Some(kept) => Ok(Some(By::Transaction(kept.into_settled(alloc)?))),
+        None => Ok(None),
     }
 }
 
@@ -58,7 +58,8 @@ impl Sink for Kept {
             acts,
             settled,
         } = did;
-        put_entry(&mut self.entries, maker_of(settled), acts)?;
+        let by = maker_of(alloc, settled)?;
+        put_entry(&mut self.entries, by, acts)?;
         Ok((next, moved))
     }
 

@@ -1,10 +1,11 @@
 //! Pairs in a `Vec`, found by binary search.
-ghost use Rattle.std.specs.{Prelude.{◌≡◌, [], IsTrue, IfNone, IfSome, ◌<◌, OnOk, OnErr, Ok, Some, is_some, length, option_copied}, FinMap.{find, put, is_sorted}, Option.{option_copied_mut}};
+ghost use Rattle.std.specs.{Prelude.{◌≡◌, ◌++◌, ◌-◌, ◌≤◌, [], IsTrue, IfNone, IfSome, ◌<◌, OnOk, OnErr, Ok, Some, is_some, length, option_copied}, FinMap.{find, put, is_sorted}, Option.{option_copied_mut}};
 ghost use Rattle.std.specs.{List.{IsAllAdjacentAnswer}, List.Sorted.{IsPermutation}, Ordering.{is_lt}, Borrow.{sem}};
-ghost use Rattle.kd_base.specs.{Lends.{lends_value, lends_found}, Places.{IsPlace, times, without}};
+ghost use Rattle.kd_base.specs.{Lends.{lends_value, lends_found}, Places.{IsPlace, from_key, times, without}};
 
 use crate::OutOfMemory;
 use std::alloc::Global;
+use std::collections::BTreeMap;
 use std::marker::Model;
 
 /// Pairs of keys and values, in ascending order of the keys without repeats. Contracts see the list of pairs.
@@ -146,6 +147,38 @@ impl<K: Ord + Copy, V: Drop> SortedPairs<K, V> {
             Ok(at) => Some(self.value_at(key, at)),
             Err(_) => None,
         }
+    }
+
+    /// The pairs whose keys are not less than this one. It looks at those before them.
+    pub(super) fn from(&self, key: &K) -> &[(K, V)]
+        ensures { result.now ≡ from_key K.cmp key.now self.now }
+    {
+        let mut rest = self.pairs.as_slice();
+        while let Some((first, more)) = rest.split_first() {
+            if first.0 >= *key {
+                return rest;
+            }
+            rest = more;
+        }
+        rest
+    }
+
+    /// Moves the last pair to a tree that has those behind it. On an error nothing changes.
+    pub(super) fn move_last(&mut self, behind: &mut BTreeMap<K, V>) -> Result<(), OutOfMemory>
+        requires { IsTrue (is_sorted K.cmp (self.old ++ behind.old.entries)) }
+        ensures same { self.new ++ behind.new.entries ≡ self.old ++ behind.old.entries }
+        ensures less { OnOk result (length self.new ≡ length self.old - 1) }
+        ensures small { length self.new ≤ length self.old }
+    {
+        let Some(pair) = self.pairs.pop() else {
+            return Ok(());
+        };
+        if let Err(refused) = behind.insert(pair.0, pair.1) {
+            // there is room for it where it was
+            self.pairs.push(refused.value)?;
+            return Err(OutOfMemory);
+        }
+        Ok(())
     }
 
     /// Takes the key and its value out, and answers the value. It takes no memory.

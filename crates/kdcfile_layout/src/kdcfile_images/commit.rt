@@ -58,9 +58,10 @@ fn writes_of(
 }
 
 /// Writes pages that the selected image does not name and the root of the unselected image, and syncs; then writes the
-/// selector, and syncs. Pages that are side by side in the list and in the file go in one write. `Memory` comes before
-/// the first write. After `Failed` the file is loaded again. The root may have another fingerprint and a greater PGPOOL
-/// than the file had.
+/// selector, and syncs. A write that ends where the next one of the list begins is one with it: so whole pages that are
+/// side by side go in one write, and a page of which only the front is written ends its own. `Memory` comes before the
+/// first write. After `Failed` the file is loaded again. The root may have another fingerprint and a greater PGPOOL than
+/// the file had.
 pub fn commit_image<D: Device>(
     alloc: Global,
     device: &mut D,

@@ -8,7 +8,7 @@ ghost use Rattle.kdcfile_layout.specs.Fresh.{after_gate, numbers as numbers_belo
 use crate::kdcfile_images::image::{Image, Root};
 use crate::kdcfile_images::root::root_bytes;
 use crate::page_pool::Pages;
-use crate::spell::zero_bytes;
+use crate::spell::{add_zeros, zero_bytes};
 use crate::{directory_pages, make_file};
 use kd_base::OutOfMemory;
 use kd_device::{Device, DeviceError};
@@ -22,15 +22,6 @@ const ROOT_PART: usize = 8192;
 
 /// How many zero bytes are written at once at most.
 const PIECE: usize = 65_536;
-
-/// Adds so many zero bytes.
-fn add_zeros(to: &mut Vec<u8>, count: usize) -> Result<(), OutOfMemory>
-    requires { count < 2 ^ 28 }
-    ensures { OnOk result (to.new.items ≡ to.old.items ++ zeros count) }
-{
-    to.resize(to.len() + count, 0)?;
-    Ok(())
-}
 
 /// Adds a root, and zero bytes up to the end of its part.
 fn add_root(to: &mut Vec<u8>, root: &[u8]) -> Result<(), OutOfMemory>

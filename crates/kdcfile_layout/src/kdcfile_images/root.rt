@@ -1,24 +1,30 @@
 //! A root as bytes.
-ghost use Rattle.std.specs.Prelude.{◌≡◌, ◌<◌, ◌^◌, ◌++◌, length, IfOk, OnOk};
+ghost use Rattle.std.specs.Prelude.{◌≡◌, ◌<◌, ◌^◌, ◌++◌, length, IfOk};
 ghost use Rattle.std.specs.List.{flat_map};
 ghost use Rattle.std.specs.Int.{w32, to_be_bytes};
 ghost use Rattle.kdcfile_layout.specs.Commit.{spelled_root};
 
 use crate::kdcfile_images::image::Root;
+use crate::spell::add_zeros;
 use kd_base::{Bytes, OutOfMemory};
 use std::alloc::Global;
 
 /// The length of a root without the numbers of the directory's pages.
 const ROOT_LEN: usize = 64;
 
-/// Adds page numbers, in four bytes each.
-fn put_numbers(to: &mut Bytes, pages: &[u32]) -> Result<(), OutOfMemory>
-    ensures { OnOk result (to.new ≡ to.old ++ flat_map (λ p. to_be_bytes w32 p) pages.now) }
+/// The bytes with page numbers after them, in four bytes each. The room is made once, and the numbers are put over it.
+fn with_numbers(head: Bytes, pages: &[u32]) -> Result<Bytes, OutOfMemory>
+    requires { length pages.now < 2 ^ 32 }
+    ensures { IfOk result (λ b. b ≡ head ++ flat_map (λ p. to_be_bytes w32 p) pages.now) }
 {
-    for page in pages {
-        to.put_u32(*page)?;
+    let from = head.len();
+    let mut bytes = head.into_vec();
+    add_zeros(&mut bytes, 4 * pages.len())?;
+    let mut out = Bytes::from_vec(bytes);
+    for n in 0..pages.len() {
+        out.overwrite(from + 4 * n, &pages[n].to_be_bytes());
     }
-    Ok(())
+    Ok(out)
 }
 
 /// The 64 bytes of a root, and the numbers of the directory's pages.
@@ -35,6 +41,5 @@ pub fn root_bytes(alloc: Global, root: &Root) -> Result<Bytes, OutOfMemory>
     out.put_u32(root.directory.len() as u32)?;
     out.put_u32(root.records)?;
     out.append(b"ROOT")?;
-    put_numbers(&mut out, root.directory.as_slice())?;
-    Ok(out)
+    with_numbers(out, root.directory.as_slice())
 }

@@ -3,7 +3,8 @@ ghost use Rattle.std.specs.Prelude.{◌≡◌, ◌≤◌, ◌+◌, length, IfOk,
 ghost use Rattle.std.specs.Option.{option_map};
 ghost use Rattle.kdcfile_layout.specs.{Chains.{part_of}, Reading.{whole_of}};
 
-use crate::{head_bytes, u32_in};
+use crate::spell::head_bytes;
+use crate::u32_in;
 use kd_base::{Bytes, OutOfMemory};
 use kd_records::RecordKey;
 use std::alloc::Global;
@@ -42,7 +43,7 @@ pub fn part_of(
         return Ok(None);
     }
     let next = u32_in(page, 33);
-    let head = head_bytes(alloc, key, whole, part, next)?;
+    let head = head_bytes(key, whole, part, next);
     let (front, rest) = page.split_at(48);
     if front != head.as_slice() {
         return Ok(None);

@@ -1,9 +1,9 @@
 //! What is done with the steps of a script.
-ghost use Rattle.std.specs.Prelude.{◌<◌, ◌≡◌, ◌^◌, [], List, IfOk, IfErr, false};
+ghost use Rattle.std.specs.Prelude.{◌<◌, ◌≤◌, ◌+◌, ◌≡◌, ◌^◌, [], List, IfOk, IfErr};
 ghost use Rattle.application_types.specs.Statements.{IsWithin};
 ghost use Rattle.abstract_monitor.specs.{CommandsOf.{IsCommandOf}, Commands.{ScriptStep}, declared.command.Command.TheVariants.{Restart}};
 ghost use Rattle.laws_of_states.specs.Applications.{IsApplication};
-ghost use Rattle.monitor_core.specs.{Commanding.{IsCoreCommand}, CoreSteps.{command_steps, turn_steps, HasNoWork, IsFree}, CoreValue.{CoreValue, OneStep}};
+ghost use Rattle.monitor_core.specs.{Commanding.{IsCoreCommand}, CoreSteps.{AreFree, HasNoWork, command_steps, idle_steps, turn_steps}, CoreValue.{CoreValue, OneStep, Rested}};
 ghost use Rattle.monitor_core.specs.Sinks.{DidTurn, SinkGoesOn};
 
 use crate::Core;
@@ -39,19 +39,28 @@ pub trait Sink {
         ensures turned { IfOk result (λ next. DidTurn core task next.0 next.1) }
         ensures failed { IfErr result (λ e. failed self.old core (turn_steps core task) e self.new) };
 
-    /// One turn of a free task where there is no work.
-    fn idle(&mut self, alloc: Global, core: Core, task: u16) -> Result<Core, Self::Error>
+    /// The turns of at most so many tasks in a row, from this one on, which are free where there is no work, and how many it
+    /// did: one at least.
+    fn idle(
+        &mut self,
+        alloc: Global,
+        core: Core,
+        task: u16,
+        most: u16,
+    ) -> Result<(Core, u16), Self::Error>
         requires ready { ready self.old core }
         requires task { IsWithin 1 core.application.generation.limits.tasks task }
-        requires free { IsFree core.state task }
+        requires some { 1 ≤ most }
+        requires free { AreFree core.state task most }
         requires none { HasNoWork core.application core.state }
-        requires steps { core.steps < 10 ^ 18 }
-        ensures took { IfOk result (λ next. took self.old core (turn_steps core task) self.new next) }
-        ensures turned { IfOk result (λ next. DidTurn core task next false) }
+        requires steps { core.steps + most ≤ 10 ^ 18 }
+        ensures took { IfOk result (λ next. took self.old core (idle_steps core.state next.1) self.new next.0) }
+        ensures rested { IfOk result (λ next. Rested core next.0 next.1) }
+        ensures within { IfOk result (λ next. IsWithin 1 most next.1) }
         ensures failed { IfErr result (λ e. failed self.old core (turn_steps core task) e self.new) }
     {
         let (next, _moved) = self.turn(alloc, core, task)?;
-        Ok(next)
+        Ok((next, 1))
     }
 
     /// A command that is no RUN, TURN or RESTART.

@@ -11,7 +11,7 @@ use Rattle.kdcs_types.specs.declared.key.ServiceId.{ServiceId}
 use Rattle.kdcs_types.specs.KeyLaws.{area_eq_same, area_total, same_area}
 use Rattle.kdcs_types.specs.Keys.{area_cmp, area_eq, id_eq}
 use Rattle.abstract_monitor.specs.Locks.{Locks, Waiting, holder}
-use Rattle.monitor_parts.specs.Asked.{freed, given_back, holds_area, is_holder, other_than, unlocked, without_holder, without_wait}
+use Rattle.monitor_parts.specs.Asked.{freed, holds_area, is_holder, other_than, without_holder, without_wait}
 use Rattle.monitor_parts.proofs.area_locks.Holders.{holder_freed, holder_given_back}
 
 -- the service gave back some of its areas, and waits for nothing
@@ -35,21 +35,18 @@ not_own None who e = refl
 not_own (Some other) who e = sym (ap (λ b. cond b None (Some other)) e)
 
 -- one area more
-pub frees_one : (before now next : Locks) (who : ServiceId) (area : Area) → Frees before now who → holds_area now who area ≡ true → next ≡ unlocked now who area → Frees before next who
-frees_one before now next who area frees own is =
+pub frees_one : (before now next : Locks) (who : ServiceId) (area : Area) → Frees before now who → holds_area now who area ≡ true → next ≡ without_holder now area → Frees before next who
+frees_one before now next who area frees own after =
     record { ascending = frees.ascending; waits = ap (λ (l : Locks). l.waits) after ∙ frees.waits; others = λ a. ap (λ (l : Locks). other_than who (holder l a)) after ∙ one a (area_eq a area) refl ∙ frees.others a }
   where
-    after : next ≡ without_holder now area
-    after = is ∙ ap (given_back now area) own
-
     one : (a : Area) (same : Bool) → area_eq a area ≡ same → other_than who (holder (without_holder now area) a) ≡ other_than who (holder now a)
     one a true e = ap (other_than who) (holder_given_back now area a true ∙ ap (λ b. cond b None (holder now a)) e) ∙ own_gone (holder now a) who (ap (holds_area now who) (area_eq_same a area e) ∙ own)
     one a false e = ap (other_than who) (holder_given_back now area a true ∙ ap (λ b. cond b None (holder now a)) e)
 
 -- one area less is held
-pub fewer_holders : (now next : Locks) (who : ServiceId) (area : Area) → IsTrue (is_sorted area_cmp now.holders) → holds_area now who area ≡ true → next ≡ unlocked now who area → length next.holders < length now.holders
-fewer_holders now next who area up own is =
-    let gone : length next.holders ≡ length (without_holder now area).holders = ap (λ (l : Locks). length l.holders) (is ∙ ap (given_back now area) own) in
+pub fewer_holders : (now next : Locks) (who : ServiceId) (area : Area) → IsTrue (is_sorted area_cmp now.holders) → holds_area now who area ≡ true → next ≡ without_holder now area → length next.holders < length now.holders
+fewer_holders now next who area up own after =
+    let gone : length next.holders ≡ length (without_holder now area).holders = ap (λ (l : Locks). length l.holders) after in
     let counted : 1 + length (without_holder now area).holders ≡ length now.holders =
     ap (λ b. cond b 1 0 + length (without_holder now area).holders) (sym (there (holder now area) own)) ∙ length_without area_cmp area_total area now.holders (holds _ up) in
     omega (arith, gone, counted)

@@ -3,7 +3,7 @@ use Rattle.std.specs.Prelude.{◌≡◌, refl, Bool, true, false, cond, not, ◌
 use Rattle.std.proofs.Common.{ap, sym, subst, ◌∙◌, true≢false}
 use Rattle.std.proofs.lemmas.List.Elements.{All-head, filter_passes}
 use Rattle.std.specs.List.{All}
-use Rattle.std.specs.Option.{option_cmp, option_eq}
+use Rattle.std.specs.Option.{option_cmp}
 use Rattle.std.specs.Ordering.{is_eq, is_lt, eq_by_cmp, ordering_then, ordering_reverse}
 use Rattle.std.specs.declared.cmp.Ordering.{Ordering}
 use Rattle.std.specs.declared.cmp.Ordering.TheVariants.{Less, Equal, Greater}
@@ -20,9 +20,8 @@ use Rattle.kdcs_types.specs.declared.key.Area.{Area}
 use Rattle.kdcs_types.specs.declared.key.ServiceId.{ServiceId}
 use Rattle.kdcs_types.specs.Keys.{area_cmp, area_eq, id_cmp, id_eq}
 use Rattle.kdcs_types.specs.KeyLaws.{area_total, id_eq_itself, id_eq_same, id_total}
-use Rattle.abstract_monitor.specs.Locks.{Locks, holder}
 use Rattle.monitor_parts.specs.Asked.{is_holder}
-use Rattle.monitor_parts.specs.Index.{Holding, IsIndex, IsOpenTo, holding_cmp, is_held}
+use Rattle.monitor_parts.specs.Index.{Holding, IsIndex, holding_cmp, is_held}
 
 pub holding_total : IsTotalOrder holding_cmp
 holding_total = then_total (on_total (λ (h : Holding). h.0) id_total) (on_total (λ (h : Holding). h.1) (options_total area_total))
@@ -114,16 +113,9 @@ module _ {X : Type 0} (holders : List (Area × ServiceId)) (held : List (Holding
 
 -- ---- an area changes hands
 
-own_alone : (o : Option ServiceId) (who other : ServiceId) → false ≡ not (option_eq id_eq o (Some who)) → o ≡ Some other → id_eq other who ≡ true
-own_alone o who other own found = by (id_eq other who) (ap (λ (p : Option ServiceId). not (option_eq id_eq p (Some who))) (sym found) ∙ sym own)
-  where
-    by : (b : Bool) → not b ≡ false → b ≡ true
-    by true e = refl
-    by false e = absurd (true≢false e)
-
 -- what a service holds, no other holds
-pub open_own : (l : Locks) (who : ServiceId) (area : Area) (o : Option ServiceId) → o ≡ holder l area → false ≡ not (option_eq id_eq o (Some who)) → IsOpenTo l who area
-open_own l who area o is own other found = own_alone o who other own (is ∙ found)
+pub held_own : (holders : List (Area × ServiceId)) (who : ServiceId) (area : Area) → is_holder (find area_cmp area holders) who ≡ true → (other : ServiceId) → find area_cmp area holders ≡ Some other → id_eq other who ≡ true
+held_own holders who area own other found = ap (λ (o : Option ServiceId). is_holder o who) (sym found) ∙ own
 
 module _ {X : Type 0} (holders : List (Area × ServiceId)) (held : List (Holding × X)) (index : IsIndex holders held) (who : ServiceId) (area : Area)
     (free : (other : ServiceId) → find area_cmp area holders ≡ Some other → id_eq other who ≡ true) where

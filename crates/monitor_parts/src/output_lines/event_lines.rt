@@ -18,11 +18,16 @@ fn put_digits(out: &mut Bytes, alloc: Global, number: u64) -> Result<(), OutOfMe
     out.append(digits.as_bytes())
 }
 
+/// So many bytes are around the text of a line: what happened, a name, a space and LF.
+const AROUND: usize = 14;
+
 // What happened, with a space after it, at a terminal or printer.
 fn line_at(alloc: Global, event: &[u8], pterm: Name, text: &[u8]) -> Result<Bytes, OutOfMemory>
     ensures { IfOk result (λ out. out ≡ line (event.now ++ pterm ++ 32 ∷ text.now)) }
 {
-    let mut out = Bytes::from_slice(alloc, event)?;
+    let length = text.len().saturating_add(AROUND);
+    let mut out = Bytes::from_vec(Vec::with_capacity(alloc, length)?);
+    out.append(event)?;
     out.append(pterm.as_slice())?;
     put_word(&mut out, text)?;
     out.push(b'\n')?;

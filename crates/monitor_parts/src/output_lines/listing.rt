@@ -1,10 +1,9 @@
 //! All lines of tables, one after the other.
 ghost use Rattle.std.specs.Prelude.{◌≡◌, ◌++◌, flat_map, OnOk, IfOk};
-ghost use Rattle.abstract_monitor.specs.Listing.{gssb_line, block_line, lssb_line, service_lines, job_line, shown_line, listing};
+ghost use Rattle.abstract_monitor.specs.Listing.{gssb_line, block_line, service_lines, job_line, shown_line, listing};
 
 use crate::output_lines::row_lines::{
-    put_block_line, put_gssb_line, put_job_line, put_kb_line, put_lssb_line, put_number_line,
-    put_service_line, put_shown_line,
+    put_block_line, put_gssb_line, put_job_line, put_number_line, put_service, put_shown_line,
 };
 use kd_base::{Bytes, Name, OutOfMemory};
 use kdcs_types::{Job, JobValue, Service, Tables};
@@ -14,7 +13,7 @@ fn put_gssbs(alloc: Global, rows: &[(Name, Bytes)], text: &mut Bytes) -> Result<
     ensures { OnOk result (text.new ≡ text.old ++ flat_map gssb_line rows.now) }
 {
     for row in rows {
-        put_gssb_line(alloc, row, text)?;
+        put_gssb_line(alloc, row.0, row.1.as_slice(), text)?;
     }
     Ok(())
 }
@@ -29,27 +28,9 @@ fn put_blocks(
     ensures { OnOk result (text.new ≡ text.old ++ flat_map (block_line kind.now) rows.now) }
 {
     for row in rows {
-        put_block_line(alloc, kind, row, text)?;
+        put_block_line(alloc, kind, row.0, row.1, row.2.as_slice(), text)?;
     }
     Ok(())
-}
-
-fn put_lssbs(alloc: Global, service: &Service, text: &mut Bytes) -> Result<(), OutOfMemory>
-    ensures { OnOk result (text.new ≡ text.old ++ flat_map (lssb_line service.now) service.now.lssbs) }
-{
-    for lssb in service.lssbs.as_slice() {
-        put_lssb_line(alloc, service, lssb, text)?;
-    }
-    Ok(())
-}
-
-// A service, its KB and its LSSBs.
-fn put_service(alloc: Global, service: &Service, text: &mut Bytes) -> Result<(), OutOfMemory>
-    ensures { OnOk result (text.new ≡ text.old ++ service_lines service.now) }
-{
-    put_service_line(alloc, service, text)?;
-    put_kb_line(alloc, service, text)?;
-    put_lssbs(alloc, service, text)
 }
 
 fn put_services(alloc: Global, rows: &[Service], text: &mut Bytes) -> Result<(), OutOfMemory>
@@ -65,7 +46,7 @@ fn put_jobs(alloc: Global, rows: &[Job], text: &mut Bytes) -> Result<(), OutOfMe
     ensures { OnOk result (text.new ≡ text.old ++ flat_map job_line rows.now) }
 {
     for row in rows {
-        put_job_line(alloc, row, text)?;
+        put_job_line(alloc, row.number, &row.value, text)?;
     }
     Ok(())
 }
@@ -74,7 +55,7 @@ fn put_shown(alloc: Global, rows: &[(Name, JobValue)], text: &mut Bytes) -> Resu
     ensures { OnOk result (text.new ≡ text.old ++ flat_map shown_line rows.now) }
 {
     for row in rows {
-        put_shown_line(alloc, row, text)?;
+        put_shown_line(alloc, row.0, &row.1, text)?;
     }
     Ok(())
 }

@@ -1,7 +1,7 @@
 //! What the tasks hold, with counts of what the limits ask for.
-ghost use Rattle.std.specs.{Prelude.{◌≡◌, ◌<◌, ◌==◌, None, Some, IfOk, length, map, replicate, slice_get, slice_index_or, slice_set}, List.{list_any}};
+ghost use Rattle.std.specs.{Prelude.{◌≡◌, ◌<◌, ◌≤◌, ◌+◌, ◌==◌, ℕ, None, Some, IfOk, length, map, replicate, slice_get, slice_index_or, slice_set}, List.{list_any}};
 ghost use Rattle.abstract_monitor.specs.{Endings.{is_asynchronous}, Picks.{tasks_with}};
-ghost use Rattle.service_ends.specs.Schedule.{holds, left_by};
+ghost use Rattle.service_ends.specs.{Counted.{AreFreeFrom}, Schedule.{holds, left_by}};
 
 use crate::step_scheduler::kinds::{Classed, is_asynchronous};
 use kd_base::OutOfMemory;
@@ -13,13 +13,16 @@ use std::marker::Model;
 const CLASSES: usize = 256;
 
 /// The service that each task holds, if any, with the class of its current TAC. The counts are kept, so that a limit is
-/// asked for without going over the tasks. Contracts see the list of the places.
+/// asked for without going over the tasks, and so is where the free tasks at the end begin. Contracts see the list of the
+/// places.
 pub(crate) struct Places {
     places: Vec<Option<Classed>>,
     /// How many tasks hold a service of each class.
     of_class: Vec<usize>,
     /// How many hold an asynchronous service.
     asynchronous: usize,
+    /// From this place on, all are free.
+    used: usize,
 }
 
 impl Drop for Places {
@@ -28,23 +31,25 @@ impl Drop for Places {
             places,
             of_class,
             asynchronous,
+            used,
         } = self;
         let _ = places;
         let _ = of_class;
         let _ = asynchronous;
+        let _ = used;
     }
 }
 
 impl Model for Places {
     ghost use Rattle.std.specs.Prelude.{List, Option};
     ghost use Rattle.abstract_monitor.specs.Picks.{Classed};
-    ghost use Rattle.service_ends.specs.Counted.{AreCounts};
+    ghost use Rattle.service_ends.specs.Counted.{AreCounts, AreFreeFrom};
 
     ghost Value = { List (Option Classed) };
 
     ghost view = { λ p. p.places.items };
 
-    ghost invariant = { λ p. AreCounts p.places.items p.of_class.items p.asynchronous };
+    ghost invariant = { λ p. AreCounts p.places.items p.of_class.items p.asynchronous × AreFreeFrom p.places.items p.used };
 }
 
 fn all_free(alloc: Global, tasks: u16) -> Result<Vec<Option<Classed>>, OutOfMemory>
@@ -68,6 +73,17 @@ fn holds(place: &Option<Classed>, id: &ServiceId) -> bool
     }
 }
 
+// Where the free places at the end begin; from `used` on, all are free.
+fn used_of(places: &[Option<Classed>], mut used: usize) -> usize
+    requires { AreFreeFrom places.now used }
+    ensures { AreFreeFrom places.now result }
+{
+    while used > 0 && matches!(places.get(used - 1), Some(None)) {
+        used -= 1;
+    }
+    used
+}
+
 impl Places {
     /// All tasks are free.
     pub(crate) fn new(alloc: Global, tasks: u16) -> Result<Places, OutOfMemory>
@@ -77,6 +93,7 @@ impl Places {
             places: all_free(alloc, tasks)?,
             of_class: no_counts(alloc)?,
             asynchronous: 0,
+            used: 0,
         })
     }
 
@@ -119,6 +136,7 @@ impl Places {
         self.places[place] = None;
         self.of_class[entry.1 as usize] -= 1;
         self.asynchronous -= usize::from(is_asynchronous(&entry.0));
+        self.used = used_of(&self.places, self.used);
     }
 
     /// The task, which is free, holds this service from now on. It takes no memory.
@@ -129,6 +147,25 @@ impl Places {
         self.places[place] = Some(*entry);
         self.of_class[entry.1 as usize] += 1;
         self.asynchronous += usize::from(is_asynchronous(&entry.0));
+        self.used = self.used.max(place + 1);
+    }
+
+    /// How many places are free in a row, from this one on, of at most so many. It costs the same behind the last one that
+    /// is used, and before it in proportion to how many are free.
+    pub(crate) fn free_from(&self, place: usize, most: usize) -> usize
+        requires { place + most ≤ length self.now }
+        ensures most { result ≤ most }
+        ensures free { (i : ℕ) → i < result → slice_get self.now (place + i) ≡ Some None }
+    {
+        if place >= self.used {
+            return most;
+        }
+        for count in 0..most {
+            if self.places[place + count].is_some() {
+                return count;
+            }
+        }
+        most
     }
 
     /// Whether a task holds this service.

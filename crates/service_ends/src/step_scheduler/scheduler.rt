@@ -1,5 +1,5 @@
 //! The ready list and the tasks.
-ghost use Rattle.std.specs.Prelude.{◌≡◌, IsTrue, is_some, IfOk, OnOk, OnErr, None};
+ghost use Rattle.std.specs.Prelude.{◌≡◌, ◌<◌, ◌≤◌, ◌+◌, ℕ, length, IsTrue, is_some, IfOk, OnOk, OnErr, None};
 ghost use Rattle.service_ends.specs.Schedule.{all_free, is_ready, is_running, released, with_ready, without_ready, IsTask, place_of, service_in, with_class, with_place, took_service, took_job};
 ghost use Rattle.service_ends.specs.Schedule.{pick_queued, picked};
 
@@ -160,6 +160,17 @@ impl Scheduler {
             self.places.clear(at);
             self.places.fill(at, &(entry.0, class));
         }
+    }
+
+    /// How many tasks are free in a row, from this one on, of at most so many. It takes no memory, and costs the same behind
+    /// the last task that holds a service.
+    pub fn free_from(&self, task: u16, most: u16) -> u16
+        requires task { 1 ≤ task }
+        requires within { task + most ≤ length self.now.places + 1 }
+        ensures most { result ≤ most }
+        ensures free { (i : ℕ) → i < result → place_of (task + i) self.now ≡ None }
+    {
+        self.places.free_from(task as usize - 1, most as usize) as u16
     }
 
     /// The service that the task holds, if it holds one. It takes no memory.

@@ -1,7 +1,7 @@
 use Rattle.std.proofs.Common.{rules}
 use Rattle.kd_device.specs.declared.half.Half.TheVariants.{First}
 use Rattle.kd_device.specs.ApartLaws.{since_now}
-use Rattle.kdcfile_carry.proofs.HalfUsed.{beside, other_stays}
+use Rattle.kdcfile_copies.proofs.kdcfile_halves.HalfUsed.{beside, other_stays}
 use Rattle.kdcfile_carry.proofs.FirstUsed.{used_fine, used_frame}
 use Rattle.kdcfile_carry.proofs.first_file.replace_first.Goals as goal
 

@@ -21,7 +21,7 @@ pub returns-in_default-clause-drew : goal.returns-in_default-clause-drew
 returns-in_default-clause-drew c =
     drawing_rests _ _ _ _ _ _ _ _ c.loop-made.invariant (omega (arith, c.loop-made.invariant.few))
     (subst (λ (o : Option ℕ). IfNone o (All (λ rests. rests ≡ true) c.loop-made.resting.tasks.items)) c.in_default.is c.draw.ensures.none)
-    c.end_run.new.self c.in_ok-end_run.ensures.turns c.end_run.ensures.sent c.end_run.ensures.durable
+    c.end_run.new.self c.in_ok-end_run.ensures.turns c.end_run.ensures.durable
 
 pub try_turn-requires-clause-task : goal.try_turn-requires-clause-task
 try_turn-requires-clause-task c =
@@ -40,7 +40,7 @@ loop-made-preserved c =
       | in-Some-did+in_ok-take+in_ok-resting-2 w ↦
           let tried = subst (λ (o : Option Did). Tried c.loop-made.core c.in-Some.task c.in_ok-next.next o) w.in-Some-did.is c.in_ok-next.ensures.tried in
           subst (λ (x : Path × ℕ × Resting). Drawing c.args.core c.in_ok-next.next c.args.path.now x.0 c.args.turns (c.loop-made._made + 1) x.1 x.2.tasks.items) (λ i. (sym w.path-is i, sym w.effects-is i, sym w.resting-is i))
-          (drawing_effect _ _ _ _ _ _ _ _ c.loop-made.invariant (omega (arith, c.loop-made.invariant.few)) c.in-Some.task awake c.in_ok-next.next w.in-Some-did.did tried c.in_ok-next.ensures.steps w.take.new.self w.in_ok-take.ensures.turns w.in_ok-take.ensures.sent
+          (drawing_effect _ _ _ _ _ _ _ _ c.loop-made.invariant (omega (arith, c.loop-made.invariant.few)) c.in-Some.task awake c.in_ok-next.next w.in-Some-did.did tried c.in_ok-next.ensures.steps w.take.new.self w.in_ok-take.ensures.turns
           (effect_durable c.steps_commit_once.ensures.tables c.steps_commit_once.ensures.turns c.loop-made.core c.in_ok-next.next c.in-Some.task w.in-Some-did.did c.loop-made.invariant.beside.facts tried c.loop-made.path.durable w.take.new.self.durable c.loop-made.invariant.beside.durable w.in_ok-take.ensures.durable)
           c.tasks-tasks.result c.tasks-tasks.ensures w.in_ok-resting-2.resting.tasks.items w.in_ok-resting-2.ensures)
       | in_default-did w ↦
@@ -54,7 +54,7 @@ returns-clause-drew c =
     elim c.if-effects-turns.branch as (λ _. Drew c.args.core c.args.path.now (Run c.args.turns ∷ []) c.loop-made.core c.if-effects-turns.path) [
       | then-effects-turns+in_ok-end_run-2 w ↦
           subst (Drew c.args.core c.args.path.now (Run c.args.turns ∷ []) c.loop-made.core) (sym w.path-is)
-          (drawing_spent _ _ _ _ _ _ _ _ c.loop-made.invariant w.if-effects-turns.true (omega arith) w.end_run-then-effects-turns.new.self w.in_ok-end_run-2.ensures.turns w.end_run-then-effects-turns.ensures.sent w.end_run-then-effects-turns.ensures.durable)
+          (drawing_spent _ _ _ _ _ _ _ _ c.loop-made.invariant w.if-effects-turns.true (omega arith) w.end_run-then-effects-turns.new.self w.in_ok-end_run-2.ensures.turns w.end_run-then-effects-turns.ensures.durable)
       | else-effects-turns w ↦
           subst (Drew c.args.core c.args.path.now (Run c.args.turns ∷ []) c.loop-made.core) (sym w.path-is)
           (drawing_over _ _ _ _ _ _ _ _ c.loop-made.invariant w.if-effects-turns.false)

@@ -9,7 +9,7 @@ pub returns-in_default : goal.returns-in_default
 returns-in_default c =
     subst (λ (l : List Outcome). IsAdded c.args.outcomes.now.items l c.args.found) (sym c.in_ok-push.ensures.items)
     (added_behind c.args.outcomes.now.items c.args.found c.from_found.result (subst (λ (l : List Outcome). All (λ (o : Outcome). IsThatOf o c.args.found → ⊥) l) c.as_slice.ensures.value c.in_default.ensures)
-    (record { same = record { sent = c.from_found.ensures.sent; tables = c.from_found.ensures.tables }; turns = c.from_found.ensures.turns; orders = c.from_found.ensures.orders }))
+    c.from_found.ensures)
 
 pub index_mut-requires : goal.index_mut-requires
 index_mut-requires c =
@@ -26,4 +26,4 @@ pub returns : goal.returns
 returns c =
     let there : IsThere c.args.outcomes.now.items c.args.found c.in-Some.at = subst (λ (l : List Outcome). IsThere l c.args.found c.in-Some.at) c.as_slice.ensures.value c.in-Some.ensures in
     counted_there c.args.outcomes.now.items c.args.found c.in-Some.at there c.count.new.self c.index_mut.result.now
-    (λ x is same. counted_so x c.index_mut.result.now c.count.new.self c.args.found (is ∙ sym c.index_mut.ensures.value) same c.count.ensures.sent c.count.ensures.tables c.count.ensures.turns c.count.ensures.orders)
+    (λ x is same. counted_so x c.index_mut.result.now c.count.new.self c.args.found (is ∙ sym c.index_mut.ensures.value) same c.count.ensures.result c.count.ensures.turns c.count.ensures.sent c.count.ensures.orders)

@@ -23,11 +23,11 @@ returns c = following_over _ _ _ _ _ _ _ _ c.loop-command.invariant (omega arith
 pub returns-in-Some : goal.returns-in-Some
 returns-in-Some c =
     following_stops _ _ _ _ _ _ _ _ c.loop-command.invariant c.command-item.result c.command-item.is c.loop-command-test.true c.in_ok-next.next c.reach_command.new.path c.in_ok-next.behind.now c.in-Some.place
-    (subst (λ (o : Option Place). WentCommand c.loop-command.core c.loop-command.path c.command-item.result c.loop-command.rest.now c.in_ok-next.next c.reach_command.new.path c.in_ok-next.behind.now o) c.in-Some.is c.in_ok-next.ensures.went)
+    (subst (λ (o : Option Place). WentCommand c.loop-command.core c.command-item.result c.loop-command.rest.now c.in_ok-next.next c.reach_command.new.path c.in_ok-next.behind.now o) c.in-Some.is c.in_ok-next.ensures.went)
     c.in_ok-next.ensures.steps
 
 pub loop-command-preserved : goal.loop-command-preserved
 loop-command-preserved c =
     following_more _ _ _ _ _ _ _ _ c.loop-command.invariant c.command-item.result c.command-item.is c.loop-command-test.true c.in_ok-next.next c.reach_command.new.path c.in_ok-next.behind.now
-    (subst (λ (o : Option Place). WentCommand c.loop-command.core c.loop-command.path c.command-item.result c.loop-command.rest.now c.in_ok-next.next c.reach_command.new.path c.in_ok-next.behind.now o) c.in_default.is c.in_ok-next.ensures.went)
+    (subst (λ (o : Option Place). WentCommand c.loop-command.core c.command-item.result c.loop-command.rest.now c.in_ok-next.next c.reach_command.new.path c.in_ok-next.behind.now o) c.in_default.is c.in_ok-next.ensures.went)
     c.in_ok-next.ensures.taken c.in_ok-next.ensures.steps

@@ -1,4 +1,4 @@
-use Rattle.std.proofs.Common.{refl, arith, ap, ◌+◌}
+use Rattle.std.proofs.Common.{arith, ap, ◌+◌}
 use Rattle.lab_orders.proofs.Reaching.{one_to_tasks, running_more, running_over, running_rests, running_start, running_stops, taken_here}
 use Rattle.lab_orders.proofs.Scripts.{none_here}
 use Rattle.std.proofs.Common.{sym, ◌∙◌}
@@ -12,7 +12,7 @@ returns-in_default-clause-went c = running_stops _ _ _ _ _ _ _ _ _ c.loop-made.i
 
 pub returns-then-task-eq0-clause-went : goal.returns-then-task-eq0-clause-went
 returns-then-task-eq0-clause-went c =
-    running_rests _ _ _ _ _ _ _ _ _ c.loop-made.invariant c.loop-made-test.true c.in-Some.frame.now c.in-Some.behind.now c.in-Some.ensures.cases.0 (sym c.turn-task.ensures ∙ c.if-task-eq0.true) _ refl refl
+    running_rests _ _ _ _ _ _ _ _ _ c.loop-made.invariant c.loop-made-test.true c.in-Some.frame.now c.in-Some.behind.now c.in-Some.ensures.cases.0 (sym c.turn-task.ensures ∙ c.if-task-eq0.true)
 
 pub do_turn-requires-clause-task : goal.do_turn-requires-clause-task
 do_turn-requires-clause-task c =

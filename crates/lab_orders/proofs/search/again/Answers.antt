@@ -12,4 +12,4 @@ pub returns-clause-application : goal.returns-clause-application
 returns-clause-application c = c.in_ok-core.ensures.application ∙ sym c.into_application-generation.ensures.application
 
 pub returns-clause-state : goal.returns-clause-state
-returns-clause-state c = again_state c.args.core.application c.args.tables.now c.args.commands.now c.into_application-generation.result.0 c.into_application-generation.result.1 c.into_application-generation.ensures.application c.args.frames.now c.in_ok-core.core c.in_ok-core._path.sent c.in_ok-core._place c.in_ok-core.ensures.reached
+returns-clause-state c = again_state c.args.core.application c.args.tables.now c.args.commands.now c.into_application-generation.result.0 c.into_application-generation.result.1 c.into_application-generation.ensures.application c.args.frames.now c.in_ok-core.core c.in_ok-core._place c.in_ok-core.ensures.reached

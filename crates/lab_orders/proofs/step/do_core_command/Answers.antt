@@ -1,5 +1,9 @@
+use Rattle.std.proofs.Common.{ap, ◌∙◌}
+use Rattle.std.specs.Prelude.{false, ◌||◌}
 use Rattle.abstract_monitor.specs.Commands.{command_of}
-use Rattle.lab_orders.proofs.Commands.{acts_are_kept, did_command}
+use Rattle.lab_walks.specs.declared.signs.Signs.{Signs}
+use Rattle.lab_walks.specs.Signs.{is_k04, is_k05, is_refused_in}
+use Rattle.lab_orders.proofs.Commands.{acts_are_kept, did_command, seen_command}
 use Rattle.lab_orders.proofs.step.do_core_command.Goals as goal
 
 pub keep-requires : goal.keep-requires
@@ -13,5 +17,7 @@ pub returns-clause-done : goal.returns-clause-done
 returns-clause-done c =
     let app = c.args.core.application in
     let s = c.args.core.state in
-    did_command c.steps_commit_once.ensures.tables c.args.core c.in_ok-next.next c.args.command.now c.args.path.now c.keep.new.self c.requires.beside c.in_ok-next.ensures.facts c.in_ok-next.ensures.one.application (c.steps_commit_once.ensures.commands app s c.args.command.now) c.in_ok-next.acts c.in_ok-next.ensures.exact
+    did_command c.steps_commit_once.ensures.tables c.args.core c.in_ok-next.next c.args.command.now c.args.path.now _ c.requires.beside c.in_ok-next.ensures.facts c.in_ok-next.ensures.one.application (c.steps_commit_once.ensures.commands app s c.args.command.now) c.in_ok-next.acts c.in_ok-next.ensures.exact
     c.in_ok-keep.ensures.turns c.in_ok-keep.ensures.sent c.in_ok-keep.ensures.durable
+    (seen_command c.args.path.now.signs c.seen-path.result c.in_ok-next.next.state (c.seen-path.ensures.k04 ∙ ap (λ (x : Signs). x.k04 || is_refused_in is_k04 c.in_ok-next.next.state) c.in_ok-keep.ensures.signs) (c.seen-path.ensures.k05 ∙ ap (λ (x : Signs). x.k05 || is_refused_in is_k05 c.in_ok-next.next.state) c.in_ok-keep.ensures.signs)
+    app s c.args.command.now c.requires.core_command c.in_ok-next.ensures.exact.state (c.seen-path.ensures.dump ∙ ap (λ (x : Signs). x.dump || false) c.in_ok-keep.ensures.signs))

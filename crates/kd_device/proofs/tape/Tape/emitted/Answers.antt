@@ -1,4 +1,4 @@
-use Rattle.std.proofs.Common.{List, ℕ, ap, refl, arith}
+use Rattle.std.proofs.Common.{List, ℕ, take, ap, refl, arith}
 use Rattle.kd_device.specs.History.{Emitted, at_first, after}
 use Rattle.kd_device.specs.declared.call.Call.TheVariants.{Emit}
 use Rattle.kd_device.specs.Recording.{Recording, events, starts_of}
@@ -11,7 +11,7 @@ invariant_of-self c =
     let calls = ap (λ (r : Recording). r.spare_calls) c.self.view_is in
     let bytes = ap (λ (r : Recording). r.spare_bytes) c.self.view_is in
     let now = after (at_first (starts_of s.files.items)) (events s.kept.items s.made.items) in (
-      kept_push s.kept.items a.piece.now s.made.items s.names.items put.new.kept.items put.ensures.items k.inside k.fit
+      kept_push s.kept.items (take put.result.len a.piece.now) s.made.items s.names.items put.new.kept.items put.ensures.items k.inside k.fit
           (Emit put.result a.done) (Emitted a.piece.now a.done) c.put.new.to.items c.put.ensures.items (ap (λ (l : List ℕ). Emitted l a.done) (last_piece s.kept.items a.piece.now put.result put.ensures.span))
           s.files.items s.files.items s.sent.items c.append_if.new.to.items refl (rw put.ensures.items (behind_fits s.kept.items a.piece.now put.result put.ensures.span))
           (made_sent s.files.items s.sent.items c.append_if.new.to.items now a.piece.now a.done k.made c.append_if.ensures.items),
@@ -28,7 +28,7 @@ pub returns : goal.returns
 returns c =
     let s = c.self.inside in let a = c.args in let k = c.self.invariant.0 in let put = c.keep-span in
     rw (← c.self.view_is) (rw (
-      names_stay s.kept.items a.piece.now s.made.items s.names.items put.new.kept.items put.ensures.items k.inside k.fit,
-      events_are s.kept.items a.piece.now s.made.items s.names.items put.new.kept.items put.ensures.items k.inside k.fit (Emit put.result a.done) (Emitted a.piece.now a.done) c.put.new.to.items c.put.ensures.items
+      names_stay s.kept.items (take put.result.len a.piece.now) s.made.items s.names.items put.new.kept.items put.ensures.items k.inside k.fit,
+      events_are s.kept.items (take put.result.len a.piece.now) s.made.items s.names.items put.new.kept.items put.ensures.items k.inside k.fit (Emit put.result a.done) (Emitted a.piece.now a.done) c.put.new.to.items c.put.ensures.items
           (ap (λ (l : List ℕ). Emitted l a.done) (last_piece s.kept.items a.piece.now put.result put.ensures.span)),
     ))

@@ -1,4 +1,4 @@
-use Rattle.std.proofs.Common.{◌<◌, List, ℕ, ap, refl, sym, arith, length}
+use Rattle.std.proofs.Common.{◌<◌, List, ℕ, take, ap, refl, sym, arith, length}
 use Rattle.std.proofs.lemmas.List.{length-map}
 use Rattle.kd_device.specs.History.{Wrote, at_first, after}
 use Rattle.kd_device.specs.declared.call.Call.TheVariants.{Write}
@@ -21,7 +21,7 @@ invariant_of-self c =
     let calls = ap (λ (r : Recording). r.spare_calls) c.self.view_is in
     let bytes = ap (λ (r : Recording). r.spare_bytes) c.self.view_is in
     let now = after (at_first (starts_of s.files.items)) (events s.kept.items s.made.items) in (
-      kept_push s.kept.items a.bytes.now s.made.items s.names.items put.new.kept.items put.ensures.items k.inside k.fit
+      kept_push s.kept.items (take put.result.len a.bytes.now) s.made.items s.names.items put.new.kept.items put.ensures.items k.inside k.fit
           (Write a.disk a.at put.result a.done) (Wrote a.disk a.at a.bytes.now a.done) c.put.new.to.items c.put.ensures.items (ap (λ (l : List ℕ). Wrote a.disk a.at l a.done) (last_piece s.kept.items a.bytes.now put.result put.ensures.span))
           s.files.items _ s.sent.items s.sent.items (starts_stay s.files.items a.disk f f' _ refl was lt start end) (rw put.ensures.items (behind_fits s.kept.items a.bytes.now put.result put.ensures.span))
           (made_wrote s.files.items a.disk f f' _ refl was lt start end s.sent.items now a.at a.bytes.now a.done k.made (ap (λ (x : FileNow). x.bytes) c.write.ensures)),
@@ -41,7 +41,7 @@ returns c =
     let lt : a.disk < length s.files.items = omega (arith, c.requires.disk, ap (λ (r : Recording). length r.starts) c.self.view_is, length-map s.files.items (λ (x : FileNow). x.start)) in
     rw (← c.self.view_is) (rw (
       starts_stay s.files.items a.disk f f' _ refl was lt (ap (λ (x : FileNow). x.start) c.write.ensures) (ap (λ (x : FileNow). x.end) c.write.ensures),
-      names_stay s.kept.items a.bytes.now s.made.items s.names.items put.new.kept.items put.ensures.items k.inside k.fit,
-      events_are s.kept.items a.bytes.now s.made.items s.names.items put.new.kept.items put.ensures.items k.inside k.fit (Write a.disk a.at put.result a.done) (Wrote a.disk a.at a.bytes.now a.done) c.put.new.to.items c.put.ensures.items
+      names_stay s.kept.items (take put.result.len a.bytes.now) s.made.items s.names.items put.new.kept.items put.ensures.items k.inside k.fit,
+      events_are s.kept.items (take put.result.len a.bytes.now) s.made.items s.names.items put.new.kept.items put.ensures.items k.inside k.fit (Write a.disk a.at put.result a.done) (Wrote a.disk a.at a.bytes.now a.done) c.put.new.to.items c.put.ensures.items
           (ap (λ (l : List ℕ). Wrote a.disk a.at l a.done) (last_piece s.kept.items a.bytes.now put.result put.ensures.span)),
     ))

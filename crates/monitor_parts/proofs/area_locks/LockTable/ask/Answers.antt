@@ -4,8 +4,8 @@ use Rattle.monitor_parts.proofs.area_locks.Answering.{deadlock_answered, granted
 use Rattle.monitor_parts.proofs.area_locks.Holders.{holder_after_is}
 use Rattle.monitor_parts.proofs.area_locks.LockTable.ask.Goals as goal
 
-pub record_answer-requires : goal.record_answer-requires
-record_answer-requires c granted = granted_open c.args.self.now c.args.reswait c.args.now c.args.who c.args.area (sym c.answer-answer.ensures ∙ granted)
+pub record_answer-requires-clause-open : goal.record_answer-requires-clause-open
+record_answer-requires-clause-open c granted = granted_open c.args.self.now c.args.reswait c.args.now c.args.who c.args.area (sym c.answer-answer.ensures ∙ granted)
 
 pub returns-clause-deadlock : goal.returns-clause-deadlock
 returns-clause-deadlock c = deadlock_answered c.args.self.now c.args.reswait c.args.now c.args.who c.args.area c.answer-answer.result c.answer-answer.ensures
