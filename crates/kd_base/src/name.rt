@@ -1,5 +1,5 @@
 //! Names of TACs, users, terminals, areas, blocks and program units.
-ghost use Rattle.std.specs.{Prelude.{◌≡◌, ◌≤◌, List, ℕ, IfSome, SomeIff, Some, length, nat_eq, refl}, List.{list_all, prefix_len}};
+ghost use Rattle.std.specs.{Prelude.{◌≡◌, ◌≤◌, List, ℕ, IfSome, SomeIff, Some, length, nat_eq, refl}, List.{list_all, prefix_len}, Slice.Scan.{big_endian}};
 ghost use Rattle.std.specs.{Ordering.{nat_cmp}, Cmp.{partial_equiv_from_equiv}, Cmp.Lexicographic.{pointwise, slice_cmp, nat_list_eq_equiv, nat_list_cmp_total, texts_ties, texts_po}};
 ghost use Rattle.kd_base.specs.Text.{is_name_byte, is_space, IsName, IsNameUpTo, name_up_to, name_in, padded};
 
@@ -67,6 +67,17 @@ fn name_len(bytes: &[u8]) -> usize
     n
 }
 
+// Eight bytes as a number, the first counting most: such numbers compare as the lists of bytes do.
+#[inline]
+fn eight_as_number(bytes: &[u8]) -> u64
+    requires { length bytes.now ≡ 8 }
+    ensures { result ≡ big_endian 0 bytes.now }
+{
+    u64::from_be_bytes([
+        bytes[0], bytes[1], bytes[2], bytes[3], bytes[4], bytes[5], bytes[6], bytes[7],
+    ])
+}
+
 impl<const N: usize> NameOf<N> {
     /// The name with these bytes. It takes no memory.
     pub fn from_bytes(bytes: &[u8]) -> Option<NameOf<N>>
@@ -122,6 +133,9 @@ impl<const N: usize> PartialEq for NameOf<N> {
     ghost laws = { partial_equiv_from_equiv nat_list_eq_equiv };
 
     fn eq(&self, other: &NameOf<N>) -> bool {
+        if N == 8 {
+            return eight_as_number(&self.cells) == eight_as_number(&other.cells);
+        }
         self.as_slice() == other.as_slice()
     }
 }
@@ -150,6 +164,9 @@ impl<const N: usize> Ord for NameOf<N> {
     ghost matches_eq = { texts_ties };
 
     fn cmp(&self, other: &NameOf<N>) -> Ordering {
+        if N == 8 {
+            return eight_as_number(&self.cells).cmp(&eight_as_number(&other.cells));
+        }
         self.as_slice().cmp(&other.as_slice())
     }
 }
