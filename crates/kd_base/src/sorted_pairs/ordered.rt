@@ -114,7 +114,12 @@ impl<K: Ord + Copy, V: Drop> OrderedMap<K, V> {
         ensures* writes_back { sem 𝓛 (lends_in_tree K.row V.row K.Ord self.entry key.now result) }
         ensures value { option_copied_mut result ≡ find K.cmp key.now self.old }
     {
-        if self.few.contains_key(key) {
+        if self.many.is_empty() {
+            match self.few.get_mut(key) {
+                Some(value) => Some(value),
+                None => None,
+            }
+        } else if self.few.contains_key(key) {
             match self.few.get_mut(key) {
                 Some(value) => Some(value),
                 None => None,

@@ -19,8 +19,8 @@ none_behind : (xs : List ℕ) → xs ++ zeros 0 ≡ xs
 unfolding zeros
 none_behind xs = append-nil xs
 
-pub overwrite-requires : goal.overwrite-requires
-overwrite-requires c =
+pub put_four-requires : goal.put_four-requires
+put_four-requires c =
     let front : List ℕ = c.args.head ++ flat_map (λ p. to_be_bytes w32 p) (take c.loop-n.n c.args.pages.now) in
     let left : ℕ = 4 * (length c.args.pages.now - c.loop-n.n) in
     let four : length c.to_be_bytes.result ≡ 4 = search rules in
@@ -34,8 +34,9 @@ loop-n-preserved c =
     let more = one_more c.args.head c.args.pages.now c.loop-n.n c.loop-n-test.true ∙ ap (λ (l : List ℕ). front ++ l) (sym c.to_be_bytes.ensures) in
     record {
       bytes =
-          put_over front c.to_be_bytes.result left c.loop-n.out c.overwrite.new.self c.loop-n.invariant.bytes
-          (subst (λ (at : ℕ). c.overwrite.new.self ≡ take at c.loop-n.out ++ c.to_be_bytes.result ++ drop (at + length c.to_be_bytes.result) c.loop-n.out) (sym c.loop-n.invariant.length) c.overwrite.ensures)
+          put_over front c.to_be_bytes.result left c.loop-n.bytes.items c.put_four.new.to.items c.loop-n.invariant.bytes
+          (subst (λ (at : ℕ). c.put_four.new.to.items ≡ take at c.loop-n.bytes.items ++ c.to_be_bytes.result ++ drop (at + length c.to_be_bytes.result) c.loop-n.bytes.items) (sym c.loop-n.invariant.length)
+          (subst (λ (long : ℕ). c.put_four.new.to.items ≡ take (c.len-from.result + 4 * c.loop-n.n) c.loop-n.bytes.items ++ c.to_be_bytes.result ++ drop (c.len-from.result + 4 * c.loop-n.n + long) c.loop-n.bytes.items) (sym four) c.put_four.ensures))
           ∙ ap (λ (l : List ℕ). l ++ zeros (left - length c.to_be_bytes.result)) (sym more)
           ∙ ap (λ (k : ℕ). (c.args.head ++ flat_map (λ p. to_be_bytes w32 p) (take (c.loop-n.n + 1) c.args.pages.now)) ++ zeros k) (omega (arith, four));
       length = ap (λ (l : List ℕ). length l) more ∙ omega (arith, length-append front c.to_be_bytes.result, four, c.loop-n.invariant.length);
@@ -44,7 +45,8 @@ loop-n-preserved c =
 pub returns : goal.returns
 returns c =
     let all : c.loop-n.n ≡ length c.args.pages.now = omega (arith, c.loop-n-test.false, c.loop-n.auto.n-end) in
-    c.loop-n.invariant.bytes
+    c.from_vec.ensures
+    ∙ c.loop-n.invariant.bytes
     ∙ ap (λ (k : ℕ). (c.args.head ++ flat_map (λ p. to_be_bytes w32 p) (take c.loop-n.n c.args.pages.now)) ++ zeros k) (omega (arith, all))
     ∙ none_behind (c.args.head ++ flat_map (λ p. to_be_bytes w32 p) (take c.loop-n.n c.args.pages.now))
     ∙ ap (λ (l : List ℕ). c.args.head ++ flat_map (λ p. to_be_bytes w32 p) l) (take_all c.loop-n.n c.args.pages.now (omega (arith, all)))
