@@ -73,7 +73,10 @@ class Lmdb:
 
 class Berkeley:
     def __init__(self, folder):
-        from berkeleydb import db
+        try:
+            from berkeleydb import db
+        except ImportError:
+            from bsddb3 import db
         kinds = db.DB_CREATE | db.DB_INIT_MPOOL | db.DB_INIT_LOG | db.DB_INIT_LOCK | db.DB_INIT_TXN
         self.room = db.DBEnv()
         self.room.open(str(folder), kinds)
@@ -89,7 +92,7 @@ class Berkeley:
 
 
 PEERS = {"dictionary": Dictionary, "sqlite": Sqlite, "lmdb": Lmdb, "berkeley": Berkeley}
-MODULES = {"lmdb": "lmdb", "berkeley": "berkeleydb"}
+MODULES = {"lmdb": ("lmdb",), "berkeley": ("berkeleydb", "bsddb3")}
 
 
 def work_through(peer, inputs):
@@ -110,8 +113,9 @@ def work_through(peer, inputs):
 
 
 def is_installed(name):
-    tried = [sys.executable, "-c", f"import {MODULES.get(name, 'sys')}"]
-    return subprocess.run(tried, stderr=subprocess.DEVNULL).returncode == 0
+    """Whether Python has one of the modules of a peer."""
+    tried = ([sys.executable, "-c", f"import {module}"] for module in MODULES.get(name, ("sys",)))
+    return any(subprocess.run(it, stderr=subprocess.DEVNULL).returncode == 0 for it in tried)
 
 
 def emptied(folder):
