@@ -1,6 +1,7 @@
 mod Answering
 mod Checks
 mod Filing
+mod Outcomes
 mod Placing
 mod Rooms
 mod Saying

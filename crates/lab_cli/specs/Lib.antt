@@ -2,6 +2,7 @@ pub mod Answers
 pub mod Causes
 pub mod Checking
 pub mod Doing
+pub mod ExploredText
 pub mod Exploring
 pub mod Places
 pub mod Stops

@@ -1,20 +1,22 @@
 //! `explore`: the distinct outcomes of the orders of the tasks.
-ghost use Rattle.std.specs.{Prelude.{◌≡◌, ◌≤◌, ◌^◌, true, false, cond, IfOk, IfSome, IsTrue, sum_by}, List.{list_any}};
+ghost use Rattle.std.specs.{Prelude.{◌≡◌, ◌≤◌, ◌^◌, [], true, false, cond, IfOk, IfSome, IsTrue, OnOk, sum_by}, List.{list_any}};
 ghost use Rattle.application_types.specs.Fitted.{IsFit};
 ghost use Rattle.laws_of_runs.specs.Applied.{applied};
 ghost use Rattle.laws_of_states.specs.{Keeping.{IsScriptOf}, Suits.{Suits}};
 ghost use Rattle.abstract_monitor.specs.Commands.{started};
 ghost use Rattle.lab_orders.specs.{Exploring.{AreAll, AreDistinct, AreOrdered, AreOutcomes, IsTried}, Told.{AreMore}, Walking.{tries_of}};
-ghost use Rattle.lab_cli.specs.{Exploring.{do_differ, is_spent, stands_still}, Places.{CanStart}};
+ghost use Rattle.lab_turns.specs.Consoles.{printed};
+ghost use Rattle.lab_cli.specs.{ExploredText.{explored_text}, Exploring.{do_differ, is_spent, stands_still}, Places.{CanStart}};
 
+use crate::printing::print_explored;
 use crate::reading::Place;
-use crate::stop::Stop;
 use abstract_monitor::Command;
 use application_read::Application;
-use kd_base::{Bytes, OutOfMemory};
+use kd_base::OutOfMemory;
 use kdcs_types::Tables;
-use lab_orders::{Explored, Outcome, Signs, explore, turned};
-use lab_turns::lab_printing::{Console, put_command, put_number};
+use lab_orders::{Explored, Outcome, explore};
+use lab_turns::LabError;
+use lab_turns::lab_printing::Console;
 use refusals::Status;
 use std::alloc::Global;
 
@@ -27,110 +29,10 @@ const MOST_TASKS: u64 = 65_535;
 /// Orders differ, or one comes to a standstill, or a RUN of one is spent.
 const DIFFER: Status = Status { code: 1 };
 
-// The signs of an outcome, a word each.
-fn put_signs(out: &mut Bytes, signs: Signs) -> Result<(), OutOfMemory> {
-    if signs.k04 {
-        out.append(b" K04")?;
-    }
-    if signs.k05 {
-        out.append(b" K05")?;
-    }
-    if signs.dump {
-        out.append(b" DUMP")?;
-    }
-    if signs.standstill {
-        out.append(b" STANDSTILL")?;
-    }
-    if signs.spent {
-        out.append(b" SPENT")?;
-    }
-    Ok(())
-}
-
-// The commands of a script, each in a line after two blanks.
-fn put_script(alloc: Global, out: &mut Bytes, commands: &[Command]) -> Result<(), OutOfMemory> {
-    for command in commands {
-        out.append(b"  ")?;
-        put_command(alloc, out, command)?;
-        out.push(b'\n')?;
-    }
-    Ok(())
-}
-
-// Puts lines, each after two blanks.
-fn put_below(out: &mut Bytes, lines: &[u8]) -> Result<(), OutOfMemory> {
-    let mut is_first = true;
-    for byte in lines {
-        if is_first {
-            out.append(b"  ")?;
-        }
-        out.push(*byte)?;
-        is_first = *byte == b'\n';
-    }
-    Ok(())
-}
-
-// How many orders come to the outcome, and its signs.
-fn outcome_line(alloc: Global, number: u64, outcome: &Outcome) -> Result<Bytes, OutOfMemory> {
-    let mut out = Bytes::from_slice(alloc, b"OUTCOME ")?;
-    put_number(alloc, &mut out, number)?;
-    out.append(b" ORDERS ")?;
-    put_number(alloc, &mut out, outcome.orders)?;
-    put_signs(&mut out, outcome.signs)?;
-    out.push(b'\n')?;
-    Ok(out)
-}
-
-fn outcome_text(
-    alloc: Global,
-    number: u64,
-    outcome: &Outcome,
-    commands: &[Command],
-) -> Result<Bytes, OutOfMemory> {
-    let mut out = outcome_line(alloc, number, outcome)?;
-    let script = turned(alloc, commands, outcome.turns.as_slice())?;
-    out.append(b"SCRIPT\n")?;
-    put_script(alloc, &mut out, &script)?;
-    out.append(b"SENT\n")?;
-    put_below(&mut out, outcome.sent.as_slice())?;
-    out.append(b"TABLES\n")?;
-    put_below(&mut out, outcome.tables.as_slice())?;
-    Ok(out)
-}
-
-// How many orders were tried, and which.
-fn orders_line(alloc: Global, explored: &Explored, number: u64) -> Result<Bytes, OutOfMemory> {
-    let mut out = Bytes::from_slice(alloc, b"ORDERS ")?;
-    put_number(alloc, &mut out, explored.orders)?;
-    if explored.all {
-        out.append(b" ALL")?;
-    } else {
-        out.append(b" DRAWN FROM ")?;
-        put_number(alloc, &mut out, number)?;
-    }
-    out.append(b" OUTCOMES ")?;
-    put_number(alloc, &mut out, explored.outcomes.len() as u64)?;
-    out.push(b'\n')?;
-    Ok(out)
-}
-
-// Prints what was explored, from this number.
-fn print_explored<C: Console>(
-    alloc: Global,
-    console: &mut C,
-    explored: &Explored,
-    commands: &[Command],
-    number: u64,
-) -> Result<(), Stop> {
-    console.put(orders_line(alloc, explored, number)?.as_slice())?;
-    for (at, outcome) in explored.outcomes.as_slice().iter().enumerate() {
-        let number = at as u64 + 1;
-        console.put(outcome_text(alloc, number, outcome, commands)?.as_slice())?;
-    }
-    Ok(())
-}
-
-fn tell_most<C: Console>(alloc: Global, console: &mut C, most: u64) -> Result<(), OutOfMemory> {
+// Tells how many orders are tried at most, beside what is printed.
+fn tell_most<C: Console>(alloc: Global, console: &mut C, most: u64) -> Result<(), OutOfMemory>
+    ensures { OnOk result (C.passes console.old [] console.new) }
+{
     console.tell(format!(in alloc; "exploring at most {most} orders")?.as_str());
     Ok(())
 }
@@ -208,7 +110,7 @@ fn can_be_counted(commands: &[Command]) -> bool
     true
 }
 
-// Explores a script from these tables.
+// Explores a script from these tables, and prints what was found.
 fn explore_script<C: Console>(
     alloc: Global,
     console: &mut C,
@@ -217,7 +119,7 @@ fn explore_script<C: Console>(
     commands: &[Command],
     most: u64,
     number: u64,
-) -> Result<Explored, Stop>
+) -> Result<Explored, LabError>
     requires fit { IsFit application.generation application.units }
     requires suits { Suits application.generation tables.now }
     requires names { IsScriptOf (applied application.generation application.units) commands.now }
@@ -230,9 +132,10 @@ fn explore_script<C: Console>(
     ensures counted { IfOk result (λ e. sum_by (λ o. o.orders) e.outcomes ≡ e.orders) }
     ensures most { IfOk result (λ e. e.orders ≤ most) }
     ensures drawn { IfOk result (λ e. e.all ≡ false → e.orders ≡ most) }
+    ensures printed { IfOk result (λ e. C.passes console.old (printed (explored_text commands.now number e)) console.new) }
 {
     if !can_be_counted(commands) {
-        return Err(Stop::Output);
+        return Err(LabError::Spent);
     }
     tell_most(alloc, console, most)?;
     let Application { generation, units } = application;
@@ -251,7 +154,7 @@ pub fn explore_orders<C: Console>(
     place: Place,
     most: u64,
     number: u64,
-) -> Result<(Status, Explored), Stop>
+) -> Result<(Status, Explored), LabError>
     requires { CanStart place }
     ensures outcomes { IfOk result (λ r. AreOutcomes (applied place.application.generation place.application.units) place.tables place.commands.items r.1.outcomes) }
     ensures orders { IfOk result (λ r. AreOrdered (applied place.application.generation place.application.units) place.tables place.commands.items r.1.outcomes) }
@@ -262,6 +165,7 @@ pub fn explore_orders<C: Console>(
     ensures counted { IfOk result (λ r. sum_by (λ o. o.orders) r.1.outcomes ≡ r.1.orders) }
     ensures most { IfOk result (λ r. r.1.orders ≤ most) }
     ensures drawn { IfOk result (λ r. r.1.all ≡ false → r.1.orders ≡ most) }
+    ensures printed { IfOk result (λ r. C.passes console.old (printed (explored_text place.commands.items number r.1)) console.new) }
     ensures status { IfOk result (λ r. r.0.code ≡ cond (do_differ r.1.outcomes) 1 0) }
 {
     let Place {

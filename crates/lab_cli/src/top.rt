@@ -191,9 +191,7 @@ fn explore_at<C: Console>(
 {
     match explore_orders(alloc, &mut console, place, most, number) {
         Ok((status, _explored)) => (Ok(status), console),
-        Err(Stop::Memory) => (Err(LabError::Memory), console),
-        // It reads nothing, so nothing else is left.
-        Err(_) => (Err(LabError::Output), console),
+        Err(error) => (Err(error), console),
     }
 }
 

@@ -6,4 +6,5 @@ returns-in-Ok g c =
       c.in-Ok._explored,
       record { outcomes = h.outcomes; orders = h.orders; all = h.all; tried = h.tried; more = h.more; distinct = h.distinct; counted = h.counted; at_most = h.most; drawn = h.drawn },
       h.status,
+      h.printed,
     )

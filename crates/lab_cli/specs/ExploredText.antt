@@ -1,0 +1,73 @@
+-- What is printed of an exploration, line by line.
+use Rattle.std.specs.Prelude.{ℕ, ◌+◌, Bool, true, false, List, [], ◌∷◌, ◌++◌, length, flat_map, codes, decimal}
+use Rattle.std.specs.Str.Lines.{lines}
+use Rattle.abstract_monitor.specs.declared.command.Command.{Command}
+use Rattle.abstract_monitor.specs.Lines.{line}
+use Rattle.lab_walks.specs.declared.signs.Signs.{Signs}
+use Rattle.lab_walks.specs.Orders.{turned_script}
+use Rattle.lab_turns.specs.Phrases.{command_text}
+use Rattle.lab_orders.specs.declared.explored.Explored.{Explored}
+use Rattle.lab_orders.specs.declared.explored.Outcome.{Outcome}
+
+-- ---- the orders
+
+-- these are all orders, or they were drawn from this number
+abbrev pub chosen_text : (all : Bool) → (number : ℕ) → List ℕ
+chosen_text true number = codes " ALL"
+chosen_text false number = codes " DRAWN FROM " ++ decimal number
+
+-- how many orders were tried, which, and how many outcomes they have
+abbrev pub orders_line : (number : ℕ) → Explored → List ℕ
+orders_line number e = line (codes "ORDERS " ++ decimal e.orders ++ chosen_text e.all number ++ codes " OUTCOMES " ++ decimal (length e.outcomes))
+
+-- ---- an outcome
+
+-- the word of a sign, where the outcome has it
+abbrev pub sign_text : (word : List ℕ) → (has : Bool) → List ℕ
+sign_text word true = word
+sign_text word false = []
+
+abbrev pub signs_text : Signs → List ℕ
+signs_text signs =
+    sign_text (codes " K04") signs.k04
+    ++ sign_text (codes " K05") signs.k05
+    ++ sign_text (codes " DUMP") signs.dump
+    ++ sign_text (codes " STANDSTILL") signs.standstill
+    ++ sign_text (codes " SPENT") signs.spent
+
+-- its number, how many orders come to it, and its signs
+abbrev pub outcome_line : (number : ℕ) → Outcome → List ℕ
+outcome_line number o = line (codes "OUTCOME " ++ decimal number ++ codes " ORDERS " ++ decimal o.orders ++ signs_text o.signs)
+
+-- a line of its own, two blanks in front
+abbrev pub line_below : (text : List ℕ) → List ℕ
+line_below text = line (codes "  " ++ text)
+
+-- a command, as a script has it
+abbrev pub command_below : Command → List ℕ
+command_below command = line_below (command_text command)
+
+-- each line of a text
+abbrev pub lines_below : (text : List ℕ) → List ℕ
+lines_below text = flat_map line_below (lines text)
+
+-- the script of the order that it shows, what this order sends, and the tables at its end
+abbrev pub parts_text : List Command → Outcome → List ℕ
+parts_text commands o =
+    codes "SCRIPT\n" ++ flat_map command_below (turned_script commands o.turns)
+    ++ codes "SENT\n" ++ lines_below o.sent
+    ++ codes "TABLES\n" ++ lines_below o.tables
+
+abbrev pub outcome_text : List Command → (number : ℕ) → Outcome → List ℕ
+outcome_text commands number o = outcome_line number o ++ parts_text commands o
+
+-- ---- all of it
+
+-- outcomes, numbered from this number on
+unfoldable pub outcomes_text : List Command → (number : ℕ) → List Outcome → List ℕ
+outcomes_text commands number [] = []
+outcomes_text commands number (o ∷ os) = outcome_text commands number o ++ outcomes_text commands (number + 1) os
+
+-- of these commands, where drawn orders come from this number
+unfoldable pub explored_text : List Command → (number : ℕ) → Explored → List ℕ
+explored_text commands number e = orders_line number e ++ outcomes_text commands 1 e.outcomes

@@ -1,0 +1,183 @@
+//! What is printed of an exploration.
+ghost use Rattle.std.specs.Prelude.{◌≡◌, ◌++◌, IfOk, OnOk, codes, decimal, flat_map};
+ghost use Rattle.lab_turns.specs.Consoles.{printed};
+ghost use Rattle.lab_cli.specs.ExploredText.{chosen_text, command_below, explored_text, line_below, lines_below, orders_line, outcome_line, outcome_text, outcomes_text, parts_text, sign_text, signs_text};
+
+use abstract_monitor::Command;
+use kd_base::{Bytes, OutOfMemory};
+use lab_orders::{Explored, Outcome, Signs, turned};
+use lab_turns::LabError;
+use lab_turns::lab_printing::{Console, put_command, put_number};
+use std::alloc::Global;
+use texts::next_line;
+
+// The word of a sign, where the outcome has it.
+fn put_sign(out: &mut Bytes, word: &[u8], has: bool) -> Result<(), OutOfMemory>
+    ensures { OnOk result (out.new ≡ out.old ++ sign_text word.now has) }
+{
+    if has { out.append(word) } else { Ok(()) }
+}
+
+// The signs of an outcome, a word each.
+fn put_signs(out: &mut Bytes, signs: Signs) -> Result<(), OutOfMemory>
+    ensures { OnOk result (out.new ≡ out.old ++ signs_text signs) }
+{
+    put_sign(out, b" K04", signs.k04)?;
+    put_sign(out, b" K05", signs.k05)?;
+    put_sign(out, b" DUMP", signs.dump)?;
+    put_sign(out, b" STANDSTILL", signs.standstill)?;
+    put_sign(out, b" SPENT", signs.spent)
+}
+
+// How many orders come to the outcome, and its signs.
+fn put_outcome_line(
+    alloc: Global,
+    out: &mut Bytes,
+    number: u64,
+    outcome: &Outcome,
+) -> Result<(), OutOfMemory>
+    ensures { OnOk result (out.new ≡ out.old ++ outcome_line number outcome.now) }
+{
+    out.append(b"OUTCOME ")?;
+    put_number(alloc, out, number)?;
+    out.append(b" ORDERS ")?;
+    put_number(alloc, out, outcome.orders)?;
+    put_signs(out, outcome.signs)?;
+    out.push(b'\n')
+}
+
+fn put_command_below(alloc: Global, out: &mut Bytes, command: &Command) -> Result<(), OutOfMemory>
+    ensures { OnOk result (out.new ≡ out.old ++ command_below command.now) }
+{
+    out.append(b"  ")?;
+    put_command(alloc, out, command)?;
+    out.push(b'\n')
+}
+
+// The commands of a script, each in a line after two blanks.
+fn put_script(alloc: Global, out: &mut Bytes, commands: &[Command]) -> Result<(), OutOfMemory>
+    ensures { OnOk result (out.new ≡ out.old ++ flat_map command_below commands.now) }
+{
+    for command in commands {
+        put_command_below(alloc, out, command)?;
+    }
+    Ok(())
+}
+
+fn put_line_below(out: &mut Bytes, line: &[u8]) -> Result<(), OutOfMemory>
+    ensures { OnOk result (out.new ≡ out.old ++ line_below line.now) }
+{
+    out.append(b"  ")?;
+    out.append(line)?;
+    out.push(b'\n')
+}
+
+// The lines of a text, each after two blanks.
+fn put_below(out: &mut Bytes, text: &[u8]) -> Result<(), OutOfMemory>
+    ensures { OnOk result (out.new ≡ out.old ++ lines_below text.now) }
+{
+    let mut rest = text;
+    while !rest.is_empty() {
+        let (line, after) = next_line(rest);
+        put_line_below(out, line)?;
+        rest = after;
+    }
+    Ok(())
+}
+
+// The script of the order that an outcome shows, what it sends, and the tables at its end.
+fn put_parts(
+    alloc: Global,
+    out: &mut Bytes,
+    outcome: &Outcome,
+    commands: &[Command],
+) -> Result<(), OutOfMemory>
+    ensures { OnOk result (out.new ≡ out.old ++ parts_text commands.now outcome.now) }
+{
+    let script = turned(alloc, commands, outcome.turns.as_slice())?;
+    out.append(b"SCRIPT\n")?;
+    put_script(alloc, out, &script)?;
+    out.append(b"SENT\n")?;
+    put_below(out, outcome.sent.as_slice())?;
+    out.append(b"TABLES\n")?;
+    put_below(out, outcome.tables.as_slice())
+}
+
+fn outcome_text(
+    alloc: Global,
+    number: u64,
+    outcome: &Outcome,
+    commands: &[Command],
+) -> Result<Bytes, OutOfMemory>
+    ensures { IfOk result (λ text. text ≡ outcome_text commands.now number outcome.now) }
+{
+    let mut out = Bytes::new(alloc);
+    put_outcome_line(alloc, &mut out, number, outcome)?;
+    put_parts(alloc, &mut out, outcome, commands)?;
+    Ok(out)
+}
+
+fn put_drawn(alloc: Global, out: &mut Bytes, number: u64) -> Result<(), OutOfMemory>
+    ensures { OnOk result (out.new ≡ out.old ++ codes " DRAWN FROM " ++ decimal number) }
+{
+    out.append(b" DRAWN FROM ")?;
+    put_number(alloc, out, number)
+}
+
+// Which orders were tried.
+fn put_chosen(alloc: Global, out: &mut Bytes, all: bool, number: u64) -> Result<(), OutOfMemory>
+    ensures { OnOk result (out.new ≡ out.old ++ chosen_text all number) }
+{
+    if all {
+        out.append(b" ALL")
+    } else {
+        put_drawn(alloc, out, number)
+    }
+}
+
+// How many orders were tried, and which.
+fn orders_line(alloc: Global, explored: &Explored, number: u64) -> Result<Bytes, OutOfMemory>
+    ensures { IfOk result (λ text. text ≡ orders_line number explored.now) }
+{
+    let mut out = Bytes::from_slice(alloc, b"ORDERS ")?;
+    put_number(alloc, &mut out, explored.orders)?;
+    put_chosen(alloc, &mut out, explored.all, number)?;
+    out.append(b" OUTCOMES ")?;
+    put_number(alloc, &mut out, explored.outcomes.len() as u64)?;
+    out.push(b'\n')?;
+    Ok(out)
+}
+
+// Prints outcomes, one after another.
+fn print_outcomes<C: Console>(
+    alloc: Global,
+    console: &mut C,
+    outcomes: &[Outcome],
+    commands: &[Command],
+) -> Result<(), LabError>
+    ensures { OnOk result (C.passes console.old (printed (outcomes_text commands.now 1 outcomes.now)) console.new) }
+{
+    let mut number: u64 = 1;
+    for outcome in outcomes {
+        let text = outcome_text(alloc, number, outcome, commands)?;
+        console.put(text.as_slice())?;
+        number += 1;
+    }
+    Ok(())
+}
+
+/// Prints the outcomes of these commands, the shortest order of each, and how many orders were tried. Those that are drawn
+/// are drawn from this number.
+pub(crate) fn print_explored<C: Console>(
+    alloc: Global,
+    console: &mut C,
+    explored: &Explored,
+    commands: &[Command],
+    number: u64,
+) -> Result<(), LabError>
+    ensures { OnOk result (C.passes console.old (printed (explored_text commands.now number explored.now)) console.new) }
+{
+    let line = orders_line(alloc, explored, number)?;
+    console.put(line.as_slice())?;
+    print_outcomes(alloc, console, explored.outcomes.as_slice(), commands)
+}
