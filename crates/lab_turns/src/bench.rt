@@ -98,6 +98,16 @@ impl Bench {
         &self.core
     }
 
+    /// The generation and the units, with which a monitor can start again. It takes no memory.
+    pub fn into_application(self) -> (Generation, Units)
+        ensures application { self.application ≡ applied result.0 result.1 }
+        ensures fit { IsFit result.0 result.1 }
+    {
+        let Bench { core, durable } = self;
+        drop(durable);
+        core.into_application()
+    }
+
     /// Performs a command that names what the generation has. The listener hears of it, of each of its steps, and how a RUN
     /// ended.
     pub fn perform<L: Listener>(
