@@ -8,7 +8,6 @@ use Rattle.abstract_monitor.specs.Lines.{line as line_with}
 use Rattle.abstract_monitor.specs.State.{Application, State}
 use Rattle.abstract_monitor.specs.Trace.{history}
 use Rattle.laws_of_runs.specs.Applied.{applied}
-use Rattle.lab_turns.specs.Consoles.{Passed, printed}
 use Rattle.lab_turns.specs.Heard.{Heard, TellsScript}
 use Rattle.lab_turns.specs.TurnLines.{tale_text}
 use Rattle.lab_scripts.specs.declared.parting.Setting.{Setting}
@@ -45,15 +44,15 @@ indented text = flat_map indented_line (lines text)
 abbrev pub parting_text : (from at : ℕ) → (text its : List ℕ) → List ℕ
 parting_text from at text its = line_with (codes "DIFFERS FROM " ++ decimal from ++ codes " AT " ++ decimal (at + 1)) ++ indented text ++ indented its
 
--- it was told where a script parts from one with this number, and what each of them does there
-pub record TellsParting {C : Type 0} (passes : C → List Passed → C → Type 0) (app : Application) (s : State) (source : List (List ℕ)) (from : ℕ) (one other : List Command) (a b : C) : Type 0 where
+-- this text tells where a script parts from the one with this number, and what a trace prints of the next command of each
+pub record TellsParting (app : Application) (s : State) (source : List (List ℕ)) (from : ℕ) (one other : List Command) (told : List ℕ) : Type 0 where
   pub at : ℕ
   pub text : List ℕ
   pub its : List ℕ
   pub parts : PartAt at one other
   pub tells : TellsNext app s source at one text
   pub tells_its : TellsNext app s source at other its
-  pub passed : passes a (printed (parting_text from at text its)) b
+  pub all : told ≡ parting_text from at text its
 
 -- ---- what scripts are performed with
 

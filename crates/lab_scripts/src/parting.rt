@@ -1,9 +1,10 @@
 //! Where two scripts part, and what each of them does there.
-ghost use Rattle.std.specs.Prelude.{◌≡◌, ◌≤◌, ◌<◌, ◌^◌, ◌++◌, ◌↔◌, IfOk, IsTrue, OnOk, length, take};
+ghost use Rattle.std.specs.Prelude.{◌≡◌, ◌≤◌, ◌<◌, ◌^◌, ◌++◌, ◌↔◌, IfOk, IsTrue, List, OnOk, length, take, ℕ};
 ghost use Rattle.application_types.specs.Fitted.{IsFit};
 ghost use Rattle.abstract_monitor.specs.Commands.{started};
 ghost use Rattle.laws_of_runs.specs.Applied.{applied};
 ghost use Rattle.laws_of_states.specs.{Keeping.{IsScriptOf}, Suits.{Suits}};
+ghost use Rattle.lab_turns.specs.Consoles.{printed};
 ghost use Rattle.lab_scripts.specs.Parting.{GoOnAlike, IsSetAgain, PartAt, TellsNext, TellsParting, indented, parting_text};
 
 use crate::kept::{Kept, Unheard};
@@ -137,6 +138,29 @@ fn parting_text(
     Ok(out)
 }
 
+// Where they part, and what each does there.
+fn parting_told(
+    alloc: Global,
+    setting: Setting,
+    tables: &Tables,
+    from: u64,
+    one: &[Command],
+    other: &[Command],
+) -> Result<(Setting, Bytes), LabError>
+    requires fit { IsFit setting.generation setting.units }
+    requires suits { Suits setting.generation tables.now }
+    requires names { IsScriptOf (applied setting.generation setting.units) one.now }
+    requires names_too { IsScriptOf (applied setting.generation setting.units) other.now }
+    ensures again { IfOk result (λ r. IsSetAgain setting r.0) }
+    ensures told { IfOk result (λ r. TellsParting (applied setting.generation setting.units) (started (applied setting.generation setting.units) tables.now) setting.source from one.now other.now r.1) }
+{
+    let at = parting_of(one, other);
+    let (setting, text) = next_told(alloc, setting, tables, one, at)?;
+    let (setting, its) = next_told(alloc, setting, tables, other, at)?;
+    let told = parting_text(alloc, from, at, text.as_slice(), its.as_slice())?;
+    Ok((setting, told))
+}
+
 /// Tells where a script parts from another one, which has this number: behind how many commands that both begin with, and
 /// what a trace prints of the next command of that one, and of its own. Each is performed from these tables on.
 pub fn tell_parting<C: Console>(
@@ -153,12 +177,9 @@ pub fn tell_parting<C: Console>(
     requires names { IsScriptOf (applied setting.generation setting.units) one.now }
     requires names_too { IsScriptOf (applied setting.generation setting.units) other.now }
     ensures again { IfOk result (λ next. IsSetAgain setting next) }
-    ensures told { OnOk result (TellsParting C.passes (applied setting.generation setting.units) (started (applied setting.generation setting.units) tables.now) setting.source from one.now other.now console.old console.new) }
+    ensures told { OnOk result ((told : List ℕ) × TellsParting (applied setting.generation setting.units) (started (applied setting.generation setting.units) tables.now) setting.source from one.now other.now told × C.passes console.old (printed told) console.new) }
 {
-    let at = parting_of(one, other);
-    let (setting, text) = next_told(alloc, setting, tables, one, at)?;
-    let (setting, its) = next_told(alloc, setting, tables, other, at)?;
-    let told = parting_text(alloc, from, at, text.as_slice(), its.as_slice())?;
+    let (setting, told) = parting_told(alloc, setting, tables, from, one, other)?;
     console.put(told.as_slice())?;
     Ok(setting)
 }
