@@ -1,5 +1,8 @@
 pub mod Expected
+pub mod Kept
+pub mod KeptLaws
 pub mod Met
+pub mod Parting
 pub mod Printing
 pub mod Records
 pub mod RecordsLaws
