@@ -4,8 +4,8 @@ ghost use Rattle.application_types.specs.Fitted.{IsFit};
 ghost use Rattle.laws_of_runs.specs.Applied.{applied};
 ghost use Rattle.laws_of_states.specs.{Keeping.{IsScriptOf}, Suits.{Suits}};
 ghost use Rattle.abstract_monitor.specs.Commands.{started};
-ghost use Rattle.lab_orders.specs.{Exploring.{AreAll, AreDistinct, AreOrdered, AreOutcomes, IsTried}, Told.{AreMore}, Walking.{tries_of}};
-ghost use Rattle.lab_cli.specs.{Exploring.{do_differ, is_spent, stands_still}, Places.{CanStart}};
+ghost use Rattle.lab_orders.specs.{Exploring.{AreAll, AreDistinct, AreOrdered, AreOutcomes, AreToldSerial, IsTried, is_serial_with}, Told.{AreMore}, Walking.{tries_of}};
+ghost use Rattle.lab_cli.specs.{Exploring.{do_differ, is_not_serial, is_spent, stands_still}, Places.{CanStart}};
 
 use crate::reading::Place;
 use crate::stop::Stop;
@@ -24,7 +24,7 @@ const MOST_TRIES: u64 = 100_000_000_000_000;
 /// How many tasks there are at most.
 const MOST_TASKS: u64 = 65_535;
 
-/// Orders differ, or one comes to a standstill, or a RUN of one is spent.
+/// Orders differ, or one comes to a standstill, or a RUN of one is spent, or one is not serial.
 const DIFFER: Status = Status { code: 1 };
 
 // The signs of an outcome, a word each.
@@ -70,13 +70,21 @@ fn put_below(out: &mut Bytes, lines: &[u8]) -> Result<(), OutOfMemory> {
     Ok(())
 }
 
-// How many orders come to the outcome, and its signs.
-fn outcome_line(alloc: Global, number: u64, outcome: &Outcome) -> Result<Bytes, OutOfMemory> {
+// How many orders come to the outcome, its signs, and whether it is not serial.
+fn outcome_line(
+    alloc: Global,
+    number: u64,
+    outcome: &Outcome,
+    not_serial: bool,
+) -> Result<Bytes, OutOfMemory> {
     let mut out = Bytes::from_slice(alloc, b"OUTCOME ")?;
     put_number(alloc, &mut out, number)?;
     out.append(b" ORDERS ")?;
     put_number(alloc, &mut out, outcome.orders)?;
     put_signs(&mut out, outcome.signs)?;
+    if not_serial {
+        out.append(b" NOT SERIAL")?;
+    }
     out.push(b'\n')?;
     Ok(out)
 }
@@ -85,9 +93,10 @@ fn outcome_text(
     alloc: Global,
     number: u64,
     outcome: &Outcome,
+    not_serial: bool,
     commands: &[Command],
 ) -> Result<Bytes, OutOfMemory> {
-    let mut out = outcome_line(alloc, number, outcome)?;
+    let mut out = outcome_line(alloc, number, outcome, not_serial)?;
     let script = turned(alloc, commands, outcome.turns.as_slice())?;
     out.append(b"SCRIPT\n")?;
     put_script(alloc, &mut out, &script)?;
@@ -123,9 +132,11 @@ fn print_explored<C: Console>(
     number: u64,
 ) -> Result<(), Stop> {
     console.put(orders_line(alloc, explored, number)?.as_slice())?;
-    for (at, outcome) in explored.outcomes.as_slice().iter().enumerate() {
+    let outcomes = explored.outcomes.as_slice();
+    for (at, outcome) in outcomes.iter().enumerate() {
         let number = at as u64 + 1;
-        console.put(outcome_text(alloc, number, outcome, commands)?.as_slice())?;
+        let not_serial = is_not_serial(outcomes, outcome, explored.all);
+        console.put(outcome_text(alloc, number, outcome, not_serial, commands)?.as_slice())?;
     }
     Ok(())
 }
@@ -159,16 +170,40 @@ fn one_is_spent(outcomes: &[Outcome]) -> bool
     outcomes.iter().any(|outcome| is_spent(outcome))
 }
 
-fn do_differ(outcomes: &[Outcome]) -> bool
-    ensures { result ≡ do_differ outcomes.now }
+// An order with each transaction in one go comes to these tables.
+fn is_serial_with(tables: &[u8], outcome: &Outcome) -> bool
+    ensures { result ≡ is_serial_with tables.now outcome.now }
 {
-    outcomes.len() > 1 || one_stands_still(outcomes) || one_is_spent(outcomes)
+    outcome.tables.as_slice() == tables && outcome.serial > 0
 }
 
-fn status_of(outcomes: &[Outcome]) -> Status
-    ensures { result.code ≡ cond (do_differ outcomes.now) 1 0 }
+// All orders are known, and none with each transaction in one go leaves the tables of the outcome.
+fn is_not_serial(outcomes: &[Outcome], outcome: &Outcome, all: bool) -> bool
+    ensures { result ≡ is_not_serial outcomes.now outcome.now all }
 {
-    if do_differ(outcomes) {
+    let tables = outcome.tables.as_slice();
+    all && !outcomes.iter().any(|other| is_serial_with(tables, other))
+}
+
+fn one_is_not_serial(outcomes: &[Outcome], all: bool) -> bool
+    ensures { result ≡ list_any (λ outcome. is_not_serial outcomes.now outcome all) outcomes.now }
+{
+    outcomes.iter().any(|outcome| is_not_serial(outcomes, outcome, all))
+}
+
+fn do_differ(outcomes: &[Outcome], all: bool) -> bool
+    ensures { result ≡ do_differ outcomes.now all }
+{
+    outcomes.len() > 1
+        || one_stands_still(outcomes)
+        || one_is_spent(outcomes)
+        || one_is_not_serial(outcomes, all)
+}
+
+fn status_of(outcomes: &[Outcome], all: bool) -> Status
+    ensures { result.code ≡ cond (do_differ outcomes.now all) 1 0 }
+{
+    if do_differ(outcomes, all) {
         DIFFER
     } else {
         Status::DONE
@@ -226,6 +261,7 @@ fn explore_script<C: Console>(
     ensures all { IfOk result (λ e. e.all ≡ true → AreAll (applied application.generation application.units) tables.now commands.now e.outcomes) }
     ensures tried { IfOk result (λ e. IsTried (applied application.generation application.units) tables.now commands.now e) }
     ensures more { IfOk result (λ e. e.all ≡ false → AreMore (applied application.generation application.units) commands.now (started (applied application.generation application.units) tables.now) most) }
+    ensures serial { IfOk result (λ e. e.all ≡ true → AreToldSerial (applied application.generation application.units) tables.now commands.now e.outcomes) }
     ensures distinct { IfOk result (λ e. AreDistinct e.outcomes) }
     ensures counted { IfOk result (λ e. sum_by (λ o. o.orders) e.outcomes ≡ e.orders) }
     ensures most { IfOk result (λ e. e.orders ≤ most) }
@@ -244,7 +280,8 @@ fn explore_script<C: Console>(
 /// Tries the orders of the tasks: all, where there are at most `most`, and else as many, drawn from this number. It prints
 /// their distinct outcomes: of each how many orders come to it, the script of the shortest of them, what it sends, and the
 /// tables at its end. The status is 1 where there are two outcomes, where nobody can go on at the end of an order while a
-/// service waits, and where a RUN of one ends while a task's turn has an effect.
+/// service waits, where a RUN of one ends while a task's turn has an effect, and where all orders were tried and none with
+/// each transaction in one go leaves the tables of an outcome.
 pub fn explore_orders<C: Console>(
     alloc: Global,
     console: &mut C,
@@ -258,11 +295,12 @@ pub fn explore_orders<C: Console>(
     ensures all { IfOk result (λ r. r.1.all ≡ true → AreAll (applied place.application.generation place.application.units) place.tables place.commands.items r.1.outcomes) }
     ensures tried { IfOk result (λ r. IsTried (applied place.application.generation place.application.units) place.tables place.commands.items r.1) }
     ensures more { IfOk result (λ r. r.1.all ≡ false → AreMore (applied place.application.generation place.application.units) place.commands.items (started (applied place.application.generation place.application.units) place.tables) most) }
+    ensures serial { IfOk result (λ r. r.1.all ≡ true → AreToldSerial (applied place.application.generation place.application.units) place.tables place.commands.items r.1.outcomes) }
     ensures distinct { IfOk result (λ r. AreDistinct r.1.outcomes) }
     ensures counted { IfOk result (λ r. sum_by (λ o. o.orders) r.1.outcomes ≡ r.1.orders) }
     ensures most { IfOk result (λ r. r.1.orders ≤ most) }
     ensures drawn { IfOk result (λ r. r.1.all ≡ false → r.1.orders ≡ most) }
-    ensures status { IfOk result (λ r. r.0.code ≡ cond (do_differ r.1.outcomes) 1 0) }
+    ensures status { IfOk result (λ r. r.0.code ≡ cond (do_differ r.1.outcomes r.1.all) 1 0) }
 {
     let Place {
         application,
@@ -279,5 +317,6 @@ pub fn explore_orders<C: Console>(
         most,
         number,
     )?;
-    Ok((status_of(explored.outcomes.as_slice()), explored))
+    let status = status_of(explored.outcomes.as_slice(), explored.all);
+    Ok((status, explored))
 }
