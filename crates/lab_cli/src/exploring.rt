@@ -4,7 +4,7 @@ ghost use Rattle.application_types.specs.Fitted.{IsFit};
 ghost use Rattle.laws_of_runs.specs.Applied.{applied};
 ghost use Rattle.laws_of_states.specs.{Keeping.{IsScriptOf}, Suits.{Suits}};
 ghost use Rattle.abstract_monitor.specs.Commands.{started};
-ghost use Rattle.lab_orders.specs.{Exploring.{AreAll, AreDistinct, AreOrdered, AreOutcomes, AreToldSerial, IsTried, is_serial_with}, Told.{AreMore}, Walking.{tries_of}};
+ghost use Rattle.lab_orders.specs.{Exploring.{AreAll, AreDistinct, AreOrdered, AreOutcomes, AreToldSerial, IsTried, is_serial_with, tables_are_serial}, Told.{AreMore}, Walking.{tries_of}};
 ghost use Rattle.lab_cli.specs.{Exploring.{do_differ, is_not_serial, is_spent, stands_still}, Places.{CanStart}};
 
 use crate::reading::Place;
@@ -170,25 +170,32 @@ fn one_is_spent(outcomes: &[Outcome]) -> bool
     outcomes.iter().any(|outcome| is_spent(outcome))
 }
 
-// An order with each transaction in one go comes to these tables.
-fn is_serial_with(tables: &[u8], outcome: &Outcome) -> bool
-    ensures { result ≡ is_serial_with tables.now outcome.now }
+// An order of the other outcome has each transaction in one go, and leaves the tables of this one.
+fn is_serial_with(outcome: &Outcome, other: &Outcome) -> bool
+    ensures { result ≡ is_serial_with outcome.now.tables other.now }
 {
-    outcome.tables.as_slice() == tables && outcome.serial > 0
+    other.tables.as_slice() == outcome.tables.as_slice() && other.serial > 0
+}
+
+fn tables_are_serial(outcomes: &[Outcome], outcome: &Outcome) -> bool
+    ensures { result ≡ tables_are_serial outcomes.now outcome.now }
+{
+    outcomes.iter().any(|other| is_serial_with(outcome, other))
 }
 
 // All orders are known, and none with each transaction in one go leaves the tables of the outcome.
 fn is_not_serial(outcomes: &[Outcome], outcome: &Outcome, all: bool) -> bool
     ensures { result ≡ is_not_serial outcomes.now outcome.now all }
 {
-    let tables = outcome.tables.as_slice();
-    all && !outcomes.iter().any(|other| is_serial_with(tables, other))
+    all && !tables_are_serial(outcomes, outcome)
 }
 
 fn one_is_not_serial(outcomes: &[Outcome], all: bool) -> bool
     ensures { result ≡ list_any (λ outcome. is_not_serial outcomes.now outcome all) outcomes.now }
 {
-    outcomes.iter().any(|outcome| is_not_serial(outcomes, outcome, all))
+    outcomes
+        .iter()
+        .any(|outcome| is_not_serial(outcomes, outcome, all))
 }
 
 fn do_differ(outcomes: &[Outcome], all: bool) -> bool
