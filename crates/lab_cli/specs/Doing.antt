@@ -10,7 +10,7 @@ use Rattle.lab_scripts.specs.Printing.{TellsTest}
 use Rattle.lab_scripts.specs.Talking.{Talked}
 use Rattle.lab_orders.specs.declared.explored.Explored.{Explored}
 use Rattle.lab_orders.specs.declared.explored.Outcome.{Outcome}
-use Rattle.lab_orders.specs.Exploring.{AreAll, AreDistinct, AreOrdered, AreOutcomes, IsTried}
+use Rattle.lab_orders.specs.Exploring.{AreAll, AreDistinct, AreOrdered, AreOutcomes, AreToldSerial, IsTried}
 use Rattle.lab_orders.specs.Told.{AreMore}
 use Rattle.lab_cli.specs.ExploredText.{explored_text}
 use Rattle.lab_cli.specs.Exploring.{do_differ}
@@ -45,6 +45,7 @@ pub record Explores (p : Place) (most : ℕ) (e : Explored) : Type 0 where
   pub all : e.all ≡ true → AreAll (app_of p) p.tables p.commands.items e.outcomes
   pub tried : IsTried (app_of p) p.tables p.commands.items e
   pub more : e.all ≡ false → AreMore (app_of p) p.commands.items (start_of p) most
+  pub serial : e.all ≡ true → AreToldSerial (app_of p) p.tables p.commands.items e.outcomes
   pub distinct : AreDistinct e.outcomes
   pub counted : sum_by (λ (o : Outcome). o.orders) e.outcomes ≡ e.orders
   pub at_most : e.orders ≤ most
@@ -55,5 +56,5 @@ abbrev pub Does : {C : Type 0} → (passes : C → List Passed → C → Type 0)
 Does passes prompted Check p a b status = ⊥
 Does passes prompted Trace p a b status = (status ≡ 0) × Traces passes p a b
 Does passes prompted Talk p a b status = (status ≡ 0) × Talks passes prompted p a b
-Does passes prompted (Explore most number) p a b status = (e : Explored) × Explores p most e × (status ≡ cond (do_differ e.outcomes) 1 0) × passes a (printed (explored_text p.commands.items number e)) b
+Does passes prompted (Explore most number) p a b status = (e : Explored) × Explores p most e × (status ≡ cond (do_differ e.outcomes e.all) 1 0) × passes a (printed (explored_text p.commands.items number e)) b
 Does passes prompted Test p a b status = Tests passes p a b status

@@ -8,6 +8,7 @@ use Rattle.lab_walks.specs.Orders.{turned_script}
 use Rattle.lab_turns.specs.Phrases.{command_text}
 use Rattle.lab_orders.specs.declared.explored.Explored.{Explored}
 use Rattle.lab_orders.specs.declared.explored.Outcome.{Outcome}
+use Rattle.lab_cli.specs.Exploring.{is_not_serial}
 
 -- ---- the orders
 
@@ -35,9 +36,9 @@ signs_text signs =
     ++ sign_text (codes " STANDSTILL") signs.standstill
     ++ sign_text (codes " SPENT") signs.spent
 
--- its number, how many orders come to it, and its signs
-abbrev pub outcome_line : (number : ℕ) → Outcome → List ℕ
-outcome_line number o = line (codes "OUTCOME " ++ decimal number ++ codes " ORDERS " ++ decimal o.orders ++ signs_text o.signs)
+-- its number, how many orders come to it, its signs, and whether no order of whole transactions leaves its tables
+abbrev pub outcome_line : (number : ℕ) → (not_serial : Bool) → Outcome → List ℕ
+outcome_line number not_serial o = line (codes "OUTCOME " ++ decimal number ++ codes " ORDERS " ++ decimal o.orders ++ signs_text o.signs ++ sign_text (codes " NOT SERIAL") not_serial)
 
 -- a line of its own, two blanks in front
 abbrev pub line_below : (text : List ℕ) → List ℕ
@@ -58,16 +59,16 @@ parts_text commands o =
     ++ codes "SENT\n" ++ lines_below o.sent
     ++ codes "TABLES\n" ++ lines_below o.tables
 
-abbrev pub outcome_text : List Command → (number : ℕ) → Outcome → List ℕ
-outcome_text commands number o = outcome_line number o ++ parts_text commands o
+abbrev pub outcome_text : List Command → (number : ℕ) → (not_serial : Bool) → Outcome → List ℕ
+outcome_text commands number not_serial o = outcome_line number not_serial o ++ parts_text commands o
 
 -- ---- all of it
 
--- outcomes, numbered from this number on
-unfoldable pub outcomes_text : List Command → (number : ℕ) → List Outcome → List ℕ
-outcomes_text commands number [] = []
-outcomes_text commands number (o ∷ os) = outcome_text commands number o ++ outcomes_text commands (number + 1) os
+-- outcomes of an exploration, numbered from this number on
+unfoldable pub outcomes_text : List Command → Explored → (number : ℕ) → List Outcome → List ℕ
+outcomes_text commands e number [] = []
+outcomes_text commands e number (o ∷ os) = outcome_text commands number (is_not_serial e.outcomes o e.all) o ++ outcomes_text commands e (number + 1) os
 
 -- of these commands, where drawn orders come from this number
 unfoldable pub explored_text : List Command → (number : ℕ) → Explored → List ℕ
-explored_text commands number e = orders_line number e ++ outcomes_text commands 1 e.outcomes
+explored_text commands number e = orders_line number e ++ outcomes_text commands e 1 e.outcomes

@@ -1,7 +1,8 @@
 -- What an exploration answers.
-use Rattle.std.specs.Prelude.{Bool, ◌||◌, nat_lt, List, length}
+use Rattle.std.specs.Prelude.{Bool, ◌&&◌, ◌||◌, not, nat_lt, List, length}
 use Rattle.std.specs.List.{list_any}
 use Rattle.lab_orders.specs.declared.explored.Outcome.{Outcome}
+use Rattle.lab_orders.specs.Exploring.{tables_are_serial}
 
 -- at its end a service waits, and nobody can go on
 abbrev pub stands_still : Outcome → Bool
@@ -11,6 +12,14 @@ stands_still outcome = outcome.signs.standstill
 abbrev pub is_spent : Outcome → Bool
 is_spent outcome = outcome.signs.spent
 
--- there are two outcomes, or one is a standstill, or a RUN of one is spent
-abbrev pub do_differ : List Outcome → Bool
-do_differ outcomes = nat_lt 1 (length outcomes) || list_any stands_still outcomes || list_any is_spent outcomes
+-- an order of it has each transaction in one go
+abbrev pub has_serial : Outcome → Bool
+has_serial outcome = nat_lt 0 outcome.serial
+
+-- all orders are known, some have each transaction in one go, and none of these leaves its tables
+abbrev pub is_not_serial : List Outcome → Outcome → (all : Bool) → Bool
+is_not_serial outcomes outcome all = all && list_any has_serial outcomes && not (tables_are_serial outcomes outcome)
+
+-- there are two outcomes, or one is a standstill, or a RUN of one is spent, or one is not serial
+abbrev pub do_differ : List Outcome → (all : Bool) → Bool
+do_differ outcomes all = nat_lt 1 (length outcomes) || list_any stands_still outcomes || list_any is_spent outcomes || list_any (λ (outcome : Outcome). is_not_serial outcomes outcome all) outcomes

@@ -4,12 +4,13 @@ ghost use Rattle.application_types.specs.Fitted.{IsFit};
 ghost use Rattle.laws_of_runs.specs.Applied.{applied};
 ghost use Rattle.laws_of_states.specs.{Keeping.{IsScriptOf}, Suits.{Suits}};
 ghost use Rattle.abstract_monitor.specs.Commands.{started};
-ghost use Rattle.lab_orders.specs.{Exploring.{AreAll, AreDistinct, AreOrdered, AreOutcomes, IsTried}, Told.{AreMore}, Walking.{tries_of}};
+ghost use Rattle.lab_orders.specs.{Exploring.{AreAll, AreDistinct, AreOrdered, AreOutcomes, AreToldSerial, IsTried}, Told.{AreMore}, Walking.{tries_of}};
 ghost use Rattle.lab_turns.specs.Consoles.{printed};
-ghost use Rattle.lab_cli.specs.{ExploredText.{explored_text}, Exploring.{do_differ, is_spent, stands_still}, Places.{CanStart}};
+ghost use Rattle.lab_cli.specs.{ExploredText.{explored_text}, Exploring.{do_differ, is_not_serial, is_spent, stands_still}, Places.{CanStart}};
 
 use crate::printing::print_explored;
 use crate::reading::Place;
+use crate::serial::is_not_serial;
 use abstract_monitor::Command;
 use application_read::Application;
 use kd_base::OutOfMemory;
@@ -26,7 +27,7 @@ const MOST_TRIES: u64 = 100_000_000_000_000;
 /// How many tasks there are at most.
 const MOST_TASKS: u64 = 65_535;
 
-/// Orders differ, or one comes to a standstill, or a RUN of one is spent.
+/// Orders differ, or one comes to a standstill, or a RUN of one is spent, or one is not serial.
 const DIFFER: Status = Status { code: 1 };
 
 // Tells how many orders are tried at most, beside what is printed.
@@ -61,16 +62,27 @@ fn one_is_spent(outcomes: &[Outcome]) -> bool
     outcomes.iter().any(|outcome| is_spent(outcome))
 }
 
-fn do_differ(outcomes: &[Outcome]) -> bool
-    ensures { result ≡ do_differ outcomes.now }
+fn one_is_not_serial(outcomes: &[Outcome], all: bool) -> bool
+    ensures { result ≡ list_any (λ outcome. is_not_serial outcomes.now outcome all) outcomes.now }
 {
-    outcomes.len() > 1 || one_stands_still(outcomes) || one_is_spent(outcomes)
+    outcomes
+        .iter()
+        .any(|outcome| is_not_serial(outcomes, outcome, all))
 }
 
-fn status_of(outcomes: &[Outcome]) -> Status
-    ensures { result.code ≡ cond (do_differ outcomes.now) 1 0 }
+fn do_differ(outcomes: &[Outcome], all: bool) -> bool
+    ensures { result ≡ do_differ outcomes.now all }
 {
-    if do_differ(outcomes) {
+    outcomes.len() > 1
+        || one_stands_still(outcomes)
+        || one_is_spent(outcomes)
+        || one_is_not_serial(outcomes, all)
+}
+
+fn status_of(outcomes: &[Outcome], all: bool) -> Status
+    ensures { result.code ≡ cond (do_differ outcomes.now all) 1 0 }
+{
+    if do_differ(outcomes, all) {
         DIFFER
     } else {
         Status::DONE
@@ -128,6 +140,7 @@ fn explore_script<C: Console>(
     ensures all { IfOk result (λ e. e.all ≡ true → AreAll (applied application.generation application.units) tables.now commands.now e.outcomes) }
     ensures tried { IfOk result (λ e. IsTried (applied application.generation application.units) tables.now commands.now e) }
     ensures more { IfOk result (λ e. e.all ≡ false → AreMore (applied application.generation application.units) commands.now (started (applied application.generation application.units) tables.now) most) }
+    ensures serial { IfOk result (λ e. e.all ≡ true → AreToldSerial (applied application.generation application.units) tables.now commands.now e.outcomes) }
     ensures distinct { IfOk result (λ e. AreDistinct e.outcomes) }
     ensures counted { IfOk result (λ e. sum_by (λ o. o.orders) e.outcomes ≡ e.orders) }
     ensures most { IfOk result (λ e. e.orders ≤ most) }
@@ -147,7 +160,8 @@ fn explore_script<C: Console>(
 /// Tries the orders of the tasks: all, where there are at most `most`, and else as many, drawn from this number. It prints
 /// their distinct outcomes: of each how many orders come to it, the script of the shortest of them, what it sends, and the
 /// tables at its end. The status is 1 where there are two outcomes, where nobody can go on at the end of an order while a
-/// service waits, and where a RUN of one ends while a task's turn has an effect.
+/// service waits, where a RUN of one ends while a task's turn has an effect, and where all orders were tried and none with
+/// each transaction in one go leaves the tables of an outcome.
 pub fn explore_orders<C: Console>(
     alloc: Global,
     console: &mut C,
@@ -161,12 +175,13 @@ pub fn explore_orders<C: Console>(
     ensures all { IfOk result (λ r. r.1.all ≡ true → AreAll (applied place.application.generation place.application.units) place.tables place.commands.items r.1.outcomes) }
     ensures tried { IfOk result (λ r. IsTried (applied place.application.generation place.application.units) place.tables place.commands.items r.1) }
     ensures more { IfOk result (λ r. r.1.all ≡ false → AreMore (applied place.application.generation place.application.units) place.commands.items (started (applied place.application.generation place.application.units) place.tables) most) }
+    ensures serial { IfOk result (λ r. r.1.all ≡ true → AreToldSerial (applied place.application.generation place.application.units) place.tables place.commands.items r.1.outcomes) }
     ensures distinct { IfOk result (λ r. AreDistinct r.1.outcomes) }
     ensures counted { IfOk result (λ r. sum_by (λ o. o.orders) r.1.outcomes ≡ r.1.orders) }
     ensures most { IfOk result (λ r. r.1.orders ≤ most) }
     ensures drawn { IfOk result (λ r. r.1.all ≡ false → r.1.orders ≡ most) }
     ensures printed { IfOk result (λ r. C.passes console.old (printed (explored_text place.commands.items number r.1)) console.new) }
-    ensures status { IfOk result (λ r. r.0.code ≡ cond (do_differ r.1.outcomes) 1 0) }
+    ensures status { IfOk result (λ r. r.0.code ≡ cond (do_differ r.1.outcomes r.1.all) 1 0) }
 {
     let Place {
         application,
@@ -183,5 +198,6 @@ pub fn explore_orders<C: Console>(
         most,
         number,
     )?;
-    Ok((status_of(explored.outcomes.as_slice()), explored))
+    let status = status_of(explored.outcomes.as_slice(), explored.all);
+    Ok((status, explored))
 }

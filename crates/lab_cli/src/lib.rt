@@ -17,6 +17,7 @@ mod exploring;
 mod files;
 mod printing;
 mod reading;
+mod serial;
 mod stop;
 mod top;
 mod words;

@@ -3,6 +3,7 @@ ghost use Rattle.std.specs.Prelude.{◌≡◌, ◌++◌, IfOk, OnOk, codes, deci
 ghost use Rattle.lab_turns.specs.Consoles.{printed};
 ghost use Rattle.lab_cli.specs.ExploredText.{chosen_text, command_below, explored_text, line_below, lines_below, orders_line, outcome_line, outcome_text, outcomes_text, parts_text, sign_text, signs_text};
 
+use crate::serial::is_not_serial;
 use abstract_monitor::Command;
 use kd_base::{Bytes, OutOfMemory};
 use lab_orders::{Explored, Outcome, Signs, turned};
@@ -29,20 +30,22 @@ fn put_signs(out: &mut Bytes, signs: Signs) -> Result<(), OutOfMemory>
     put_sign(out, b" SPENT", signs.spent)
 }
 
-// How many orders come to the outcome, and its signs.
+// How many orders come to the outcome, its signs, and whether it is not serial.
 fn put_outcome_line(
     alloc: Global,
     out: &mut Bytes,
     number: u64,
+    not_serial: bool,
     outcome: &Outcome,
 ) -> Result<(), OutOfMemory>
-    ensures { OnOk result (out.new ≡ out.old ++ outcome_line number outcome.now) }
+    ensures { OnOk result (out.new ≡ out.old ++ outcome_line number not_serial outcome.now) }
 {
     out.append(b"OUTCOME ")?;
     put_number(alloc, out, number)?;
     out.append(b" ORDERS ")?;
     put_number(alloc, out, outcome.orders)?;
     put_signs(out, outcome.signs)?;
+    put_sign(out, b" NOT SERIAL", not_serial)?;
     out.push(b'\n')
 }
 
@@ -106,13 +109,14 @@ fn put_parts(
 fn outcome_text(
     alloc: Global,
     number: u64,
+    not_serial: bool,
     outcome: &Outcome,
     commands: &[Command],
 ) -> Result<Bytes, OutOfMemory>
-    ensures { IfOk result (λ text. text ≡ outcome_text commands.now number outcome.now) }
+    ensures { IfOk result (λ text. text ≡ outcome_text commands.now number not_serial outcome.now) }
 {
     let mut out = Bytes::new(alloc);
-    put_outcome_line(alloc, &mut out, number, outcome)?;
+    put_outcome_line(alloc, &mut out, number, not_serial, outcome)?;
     put_parts(alloc, &mut out, outcome, commands)?;
     Ok(out)
 }
@@ -148,18 +152,20 @@ fn orders_line(alloc: Global, explored: &Explored, number: u64) -> Result<Bytes,
     Ok(out)
 }
 
-// Prints outcomes, one after another.
+// Prints the outcomes, one after another.
 fn print_outcomes<C: Console>(
     alloc: Global,
     console: &mut C,
-    outcomes: &[Outcome],
+    explored: &Explored,
     commands: &[Command],
 ) -> Result<(), LabError>
-    ensures { OnOk result (C.passes console.old (printed (outcomes_text commands.now 1 outcomes.now)) console.new) }
+    ensures { OnOk result (C.passes console.old (printed (outcomes_text commands.now explored.now 1 explored.now.outcomes)) console.new) }
 {
+    let outcomes = explored.outcomes.as_slice();
     let mut number: u64 = 1;
     for outcome in outcomes {
-        let text = outcome_text(alloc, number, outcome, commands)?;
+        let not_serial = is_not_serial(outcomes, outcome, explored.all);
+        let text = outcome_text(alloc, number, not_serial, outcome, commands)?;
         console.put(text.as_slice())?;
         number += 1;
     }
@@ -179,5 +185,5 @@ pub(crate) fn print_explored<C: Console>(
 {
     let line = orders_line(alloc, explored, number)?;
     console.put(line.as_slice())?;
-    print_outcomes(alloc, console, explored.outcomes.as_slice(), commands)
+    print_outcomes(alloc, console, explored, commands)
 }

@@ -1,6 +1,6 @@
 -- Commands of a search.
 use Rattle.std.proofs.Common.{◌≡◌, ℕ, ◌+◌, ◌<◌, List, [], ◌∷◌, ◌++◌, refl, sym, ap, subst, ◌∙◌, get_or, drop, length}
-use Rattle.std.specs.Prelude.{Bool, true, false, ◌||◌, nat_le, Option, Some, None, sum_by}
+use Rattle.std.specs.Prelude.{Bool, true, false, ◌&&◌, ◌||◌, nat_le, Option, Some, None, sum_by}
 use Rattle.std.specs.FinMap.{find}
 use Rattle.kd_base.specs.Limits.{last_clock}
 use Rattle.kdcs_types.specs.declared.key.ServiceId.TheVariants.{Dialogue}
@@ -36,6 +36,7 @@ use Rattle.service_ends.specs.declared.turned.Turned.{Turned as Did}
 use Rattle.service_ends.specs.Ending.{turned_to}
 use Rattle.lab_orders.specs.declared.path.Path.{Path}
 use Rattle.lab_walks.specs.declared.signs.Signs.{Signs}
+use Rattle.lab_walks.specs.Serial.{is_one_at_a_time}
 use Rattle.lab_walks.specs.Signs.{is_dump, is_k04, is_k05, is_refused_in}
 use Rattle.lab_orders.specs.Walking.{DidCommand, IsBeside, IsNoRun, IsSeen, tries_of}
 
@@ -130,14 +131,15 @@ module _ (before after : Signs) (now : State) (k04 : after.k04 ≡ (before.k04 |
 
 pub did_command : (make : StepsMakeTheirTables) (c d : CoreValue) (command : Command) (before after : Path) → IsBeside c before → HasFacts d.application d.state → d.application ≡ c.application
     → CommitsOnce c.application c.state (command_of c.application c.state command) → (acts : List Act) → Comes d.state acts (command_of c.application c.state command)
-    → after.turns ≡ before.turns → after.sent ≡ before.sent ++ bytes_of acts → after.durable ≡ tables_after before.durable acts → IsSeen before.signs (command_of c.application c.state command) after.signs → DidCommand c before command d after
-did_command make c d command before after beside facts same once acts comes turns sent durable_is seen = record {
+    → after.turns ≡ before.turns → after.sent ≡ before.sent ++ bytes_of acts → after.durable ≡ tables_after before.durable acts → IsSeen before.signs (command_of c.application c.state command) after.signs → after.serial ≡ (before.serial && is_one_at_a_time d.state) → DidCommand c before command d after
+did_command make c d command before after beside facts same once acts comes turns sent durable_is seen serial = record {
   application = same;
   beside = record { facts = facts; durable = durable_after make c d (command_of c.application c.state command) beside.facts facts same comes.state once before.durable after.durable acts beside.durable comes.acts durable_is };
   state = comes.state;
   turns = turns;
   sent = sent ∙ ap (λ (l : List Act). before.sent ++ bytes_of l) comes.acts;
   signs = seen;
+  serial = serial;
 }
 
 pub turn_comes : (app : Application) (s now : State) (task : ℕ) (did : Did) → turned_to now did ≡ turn_of app s task → Comes now did.acts (command_of app s (Turn task))
@@ -157,8 +159,8 @@ unfolding command_of bytes_of
 restart_bytes app s = refl
 
 pub did_restart : (c d : CoreValue) (before after : Path) (sent : List ℕ) → IsBeside c before → d.application ≡ c.application → d.state ≡ started d.application before.durable → HasFacts d.application d.state
-    → sent ≡ 82 ∷ 69 ∷ 83 ∷ 84 ∷ 65 ∷ 82 ∷ 84 ∷ 10 ∷ [] → after.sent ≡ before.sent ++ sent → after.turns ≡ before.turns → after.durable ≡ before.durable → after.signs.k04 ≡ (before.signs.k04 || is_refused_in is_k04 d.state) → after.signs.k05 ≡ (before.signs.k05 || is_refused_in is_k05 d.state) → after.signs.dump ≡ (before.signs.dump || false) → DidCommand c before Restart d after
-did_restart c d before after sent beside app state facts line said turns durable_is k04 k05 dump = record {
+    → sent ≡ 82 ∷ 69 ∷ 83 ∷ 84 ∷ 65 ∷ 82 ∷ 84 ∷ 10 ∷ [] → after.sent ≡ before.sent ++ sent → after.turns ≡ before.turns → after.durable ≡ before.durable → after.signs.k04 ≡ (before.signs.k04 || is_refused_in is_k04 d.state) → after.signs.k05 ≡ (before.signs.k05 || is_refused_in is_k05 d.state) → after.signs.dump ≡ (before.signs.dump || false) → after.serial ≡ (before.serial && is_one_at_a_time d.state) → DidCommand c before Restart d after
+did_restart c d before after sent beside app state facts line said turns durable_is k04 k05 dump serial = record {
   application = app;
   beside = record {
     facts = facts;
@@ -173,6 +175,7 @@ did_restart c d before after sent beside app state facts line said turns durable
   turns = turns;
   sent = said ∙ ap (λ (l : List ℕ). before.sent ++ l) (line ∙ sym (restart_bytes c.application c.state));
   signs = seen_restart before.signs after.signs d.state k04 k05 c.application c.state there dump;
+  serial = serial;
 }
   where
     there : d.state ≡ (command_of c.application c.state Restart).after

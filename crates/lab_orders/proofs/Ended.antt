@@ -1,6 +1,6 @@
 -- What came out of a walk that was performed to its end.
 use Rattle.std.proofs.Common.{◌≡◌, ℕ, List, ◌++◌, refl, sym, ap, subst, ◌∙◌}
-use Rattle.std.specs.Prelude.{Bool, true, false, ◌||◌, not}
+use Rattle.std.specs.Prelude.{Bool, true, false, ◌&&◌, ◌||◌, not}
 use Rattle.std.specs.List.{list_any}
 use Rattle.std.proofs.lemmas.List.{append-nil}
 use Rattle.kdcs_types.specs.Tables.{TableRows}
@@ -12,6 +12,7 @@ use Rattle.abstract_monitor.specs.Trace.{bytes_of}
 use Rattle.monitor_core.specs.CoreValue.{CoreValue}
 use Rattle.lab_walks.specs.Orders.{order_steps}
 use Rattle.lab_walks.specs.Outcomes.{by_name, result_of, sent_by}
+use Rattle.lab_walks.specs.Serial.{is_serial, is_serial_along}
 use Rattle.lab_walks.specs.Signs.{has_work, is_dump_along, is_k04, is_k05, is_refused_along, run_ends, stands_still}
 use Rattle.lab_walks.specs.Walks.{IsWalk}
 use Rattle.lab_orders.specs.declared.path.Path.{Path}
@@ -45,6 +46,9 @@ module _ (app : Application) (t : TableRows) (cs : List Command) (c : CoreValue)
   dump_is : after.signs.dump ≡ is_dump_along all
   dump_is = script.goes.told.dump ∙ (λ i. begun.signs.dump i || is_dump_along (steps_are i))
 
+  serial_is : after.serial ≡ is_serial app cs (started app t) walk
+  serial_is = script.goes.told.serial ∙ (λ i. begun.serial i && is_serial_along (steps_are i))
+
   ends_are : script.goes.ends ≡ run_ends app cs (started app t) walk
   ends_are = sym (append-nil script.goes.ends) ∙ sym script.goes.ends_are ∙ (λ i. run_ends (begun.application i) cs (begun.state i) walk)
 
@@ -56,11 +60,12 @@ module _ (app : Application) (t : TableRows) (cs : List Command) (c : CoreValue)
       by false is = sym (known is)
 
   pub found_is : (asks ≡ false → list_any (has_work app) (run_ends app cs (started app t) walk) ≡ true) → IsWalk app cs (started app t) walk → (found : Found) → found.turns ≡ walk → found.sent ≡ after.sent → found.lines ≡ by_name after.sent → found.tables ≡ listing d.state.tables
-      → found.signs.k04 ≡ after.signs.k04 → found.signs.k05 ≡ after.signs.k05 → found.signs.dump ≡ after.signs.dump → found.signs.standstill ≡ stands_still d.application d.state → found.signs.spent ≡ not asks → IsFound app t cs found
-  found_is known is found turns sent lines tables k04 k05 dump standstill spent = record {
+      → found.signs.k04 ≡ after.signs.k04 → found.signs.k05 ≡ after.signs.k05 → found.signs.dump ≡ after.signs.dump → found.signs.standstill ≡ stands_still d.application d.state → found.signs.spent ≡ not asks → found.serial ≡ after.serial → IsFound app t cs found
+  found_is known is found turns sent lines tables k04 k05 dump standstill spent serial = record {
     walk = subst (IsWalk app cs (started app t)) (sym turns) is;
     sent = sent ∙ sent_is ∙ ap (sent_by app cs (started app t)) (sym turns);
     result = here ∙ ap (result_of app cs (started app t)) (sym turns);
+    serial = serial ∙ serial_is ∙ ap (is_serial app cs (started app t)) (sym turns);
   }
     where
       said_lines : found.lines ≡ by_name (sent_by app cs (started app t) walk)

@@ -165,7 +165,7 @@ module _ (app : Application) (t : TableRows) (cs : List Command) where
     each = more.each;
     distinct = distinct_added found old new h tally.distinct;
     counted = omega (arith, counted_added found old new h, tally.counted);
-    told = told_added app cs (started app t) found is.result t refl walks old new h tally.distinct (λ w there comes. tally.shown w there) tally.told;
+    told = told_added app cs (started app t) found is.result is.serial t refl walks old new h tally.distinct (λ w there comes. tally.shown w there) tally.told;
     walks_are = walks_are;
     shown = shown;
   }
@@ -189,13 +189,14 @@ counted_there [] found at h y d counts = absurd h
 counted_there (x ∷ xs) found zero h y d counts = inl (counts x refl h, refl)
 counted_there (x ∷ xs) found (suc at) h y d counts = inr (refl, h.0, counted_there xs found at h.1 y d counts)
 
-pub counted_so : (x here y : Outcome) (found : Found) → x ≡ here → IsThatOf x found → outcome_result y ≡ outcome_result here → y.turns ≡ cond (is_shorter found here) found.turns here.turns → y.sent ≡ cond (is_shorter found here) found.sent here.sent → y.orders ≡ here.orders + 1 → IsCounted x y found
-counted_so x here y found is same result turns sent orders = record {
+pub counted_so : (x here y : Outcome) (found : Found) → x ≡ here → IsThatOf x found → outcome_result y ≡ outcome_result here → y.turns ≡ cond (is_shorter found here) found.turns here.turns → y.sent ≡ cond (is_shorter found here) found.sent here.sent → y.orders ≡ here.orders + 1 → y.serial ≡ here.serial + cond found.serial 1 0 → IsCounted x y found
+counted_so x here y found is same result turns sent orders serial = record {
   same = same;
   result = result ∙ ap outcome_result (sym is);
   turns = turns ∙ ap (λ (o : Outcome). cond (is_shorter found o) found.turns o.turns) (sym is);
   sent = sent ∙ ap (λ (o : Outcome). cond (is_shorter found o) found.sent o.sent) (sym is);
   orders = orders ∙ ap (λ (o : Outcome). o.orders + 1) (sym is);
+  serial = serial ∙ ap (λ (o : Outcome). o.serial + cond found.serial 1 0) (sym is);
 }
 
 -- not there, it is behind the others

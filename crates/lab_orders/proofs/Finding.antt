@@ -1,4 +1,5 @@
 -- What the code of a search finds.
+use Rattle.std.specs.Prelude.{true}
 use Rattle.std.proofs.Common.{◌≡◌, List, [], refl, sym, ap, subst, ◌∙◌}
 use Rattle.application_types.specs.Generation.{Generated}
 use Rattle.kdcs_types.specs.Tables.{TableRows}
@@ -58,13 +59,14 @@ start_beside c p t facts state suits same = record {
 }
 
 pub begun : (g : Generated) (units : FittedUnits) (t : TableRows) (c : CoreValue) (p : Path) → c.application ≡ applied g units → c.state ≡ started c.application t → HasFacts c.application c.state → c.steps ≡ 0
-    → Suits g t → p.turns ≡ [] → p.sent ≡ [] → HasNoSigns p.signs → p.durable ≡ t → Begun (applied g units) t c p
-begun g units t c p same state facts steps suits turns sent signs durable_is = record {
+    → Suits g t → p.turns ≡ [] → p.sent ≡ [] → HasNoSigns p.signs → p.serial ≡ true → p.durable ≡ t → Begun (applied g units) t c p
+begun g units t c p same state facts steps suits turns sent signs serial durable_is = record {
   application = same;
   state = state ∙ ap (λ (a : Application). started a t) same;
   beside = start_beside c p t facts state (subst (λ (a : Application). Suits a.generation t) (sym same) suits) durable_is;
   turns = turns;
   sent = sent;
   signs = signs;
+  serial = serial;
   steps = steps;
 }

@@ -14,6 +14,7 @@ pub mod Reaching
 pub mod Rotating
 pub mod Scripts
 pub mod Searching
+pub mod Serially
 pub mod Steps
 pub mod Told
 pub mod Trying

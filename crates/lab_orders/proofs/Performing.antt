@@ -1,10 +1,10 @@
 -- Steps of a walk, one after another.
 use Rattle.std.proofs.Common.{◌≡◌, ℕ, zero, suc, ◌+◌, ◌-◌, ◌<◌, ◌≤◌, List, [], ◌∷◌, ◌++◌, refl, sym, ap, subst, ◌∙◌, append_assoc, arith, get_or, drop, take, length}
-use Rattle.std.specs.Prelude.{Bool, true, false, ◌||◌, not, sum_by}
-use Rattle.std.specs.List.{list_any}
+use Rattle.std.specs.Prelude.{Bool, true, false, ◌&&◌, ◌||◌, not, sum_by}
+use Rattle.std.specs.List.{list_all, list_any}
 use Rattle.std.proofs.lemmas.Bool.{true≢false}
 use Rattle.std.proofs.lemmas.List.{append-nil, drop_all, drop_more, take-append-drop}
-use Rattle.std.proofs.lemmas.List.Folds.{list_any-append}
+use Rattle.std.proofs.lemmas.List.Folds.{list_all-append, list_any-append}
 use Rattle.application_types.specs.Statements.{IsWithin}
 use Rattle.kdcs_types.specs.Tables.{TableRows}
 use Rattle.kdcs_types.specs.declared.act.Act.{Act}
@@ -19,6 +19,7 @@ use Rattle.abstract_monitor.specs.Trace.{bytes_of, history}
 use Rattle.laws_of_states.specs.Keeping.{HasFacts, IsScriptOf}
 use Rattle.monitor_core.specs.CoreValue.{CoreValue}
 use Rattle.lab_walks.specs.Orders.{turned_run, turned_script}
+use Rattle.lab_walks.specs.Serial.{is_one_at_a_time}
 use Rattle.lab_walks.specs.Signs.{has_work, is_at_rest, is_dump, is_k04, is_k05, is_refused_in, run_end, run_ends}
 use Rattle.lab_walks.specs.Walks.{AtEnd, CanBe, InRun, IsWalk, Spot, stand}
 use Rattle.lab_orders.specs.declared.path.Path.{Path}
@@ -45,16 +46,32 @@ flags_both p xs ys a b c first next =
     ∙ or_more a (list_any p xs) (list_any p ys)
     ∙ ap (λ f. a || f) (sym (list_any-append p xs ys))
 
+and_true : (b : Bool) → b ≡ (b && true)
+and_true true = refl
+and_true false = refl
+
+and_more : (a b c : Bool) → ((a && b) && c) ≡ (a && (b && c))
+and_more true b c = refl
+and_more false b c = refl
+
+all_both : {X : Type 0} (p : X → Bool) (xs ys : List X) (a b c : Bool) → b ≡ (a && list_all p xs) → c ≡ (b && list_all p ys) → c ≡ (a && list_all p (xs ++ ys))
+all_both p xs ys a b c first next =
+    next
+    ∙ ap (λ f. f && list_all p ys) first
+    ∙ and_more a (list_all p xs) (list_all p ys)
+    ∙ ap (λ f. a && f) (sym (list_all-append p xs ys))
+
 tells_none : (p : Path) → Tells p [] p
 unfolding bytes_of
-tells_none p = record { sent = sym (append-nil p.sent); k04 = or_false p.signs.k04; k05 = or_false p.signs.k05; dump = or_false p.signs.dump }
+tells_none p = record { sent = sym (append-nil p.sent); k04 = or_false p.signs.k04; k05 = or_false p.signs.k05; dump = or_false p.signs.dump; serial = and_true p.serial }
 
-tells_step : (before after : Path) (d : ScriptStep) → after.sent ≡ before.sent ++ bytes_of d.acts → IsSeen before.signs d after.signs → Tells before (d ∷ []) after
-tells_step before after d sent seen = record {
+tells_step : (before after : Path) (d : ScriptStep) → after.sent ≡ before.sent ++ bytes_of d.acts → IsSeen before.signs d after.signs → after.serial ≡ (before.serial && is_one_at_a_time d.after) → Tells before (d ∷ []) after
+tells_step before after d sent seen serial = record {
   sent = sent ∙ ap (λ (l : List Act). before.sent ++ bytes_of l) (sym (append-nil d.acts));
   k04 = seen.k04 ∙ ap (λ b. before.signs.k04 || b) (or_false (is_refused_in is_k04 d.after));
   k05 = seen.k05 ∙ ap (λ b. before.signs.k05 || b) (or_false (is_refused_in is_k05 d.after));
   dump = seen.dump ∙ ap (λ b. before.signs.dump || b) (or_false (is_dump d.by));
+  serial = serial ∙ ap (λ b. before.serial && b) (and_true (is_one_at_a_time d.after));
 }
 
 tells_both : (p q r : Path) (xs ys : List ScriptStep) → Tells p xs q → Tells q ys r → Tells p (xs ++ ys) r
@@ -67,6 +84,7 @@ tells_both p q r xs ys first next = record {
   k04 = flags_both (λ (d : ScriptStep). is_refused_in is_k04 d.after) xs ys p.signs.k04 q.signs.k04 r.signs.k04 first.k04 next.k04;
   k05 = flags_both (λ (d : ScriptStep). is_refused_in is_k05 d.after) xs ys p.signs.k05 q.signs.k05 r.signs.k05 first.k05 next.k05;
   dump = flags_both (λ (d : ScriptStep). is_dump d.by) xs ys p.signs.dump q.signs.dump r.signs.dump first.dump next.dump;
+  serial = all_both (λ (d : ScriptStep). is_one_at_a_time d.after) xs ys p.serial q.serial r.serial first.serial next.serial;
 }
 
 -- ---- some steps, and more
@@ -96,14 +114,14 @@ goes_both asks c d e p q r all mid left same first next = record {
 }
 
 -- one step
-goes_step : (asks : Bool) (c d : CoreValue) (p q : Path) (step : ScriptStep) (left : Ahead) → d.state ≡ step.after → q.sent ≡ p.sent ++ bytes_of step.acts → IsSeen p.signs step q.signs → Goes asks c p (step ∷ left.0, left.1) d q left
-goes_step asks c d p q step left state sent seen = record {
+goes_step : (asks : Bool) (c d : CoreValue) (p q : Path) (step : ScriptStep) (left : Ahead) → d.state ≡ step.after → q.sent ≡ p.sent ++ bytes_of step.acts → IsSeen p.signs step q.signs → q.serial ≡ (p.serial && is_one_at_a_time d.state) → Goes asks c p (step ∷ left.0, left.1) d q left
+goes_step asks c d p q step left state sent seen serial = record {
   steps = step ∷ [];
   ends = [];
   steps_are = refl;
   ends_are = refl;
   state = state ∙ sym (after_one c.state step [] ∙ no_acts_after step.after);
-  told = tells_step p q step sent seen;
+  told = tells_step p q step sent seen (serial ∙ ap (λ (s : State). p.serial && is_one_at_a_time s) state);
   rest = λ asked. refl;
 }
 
@@ -229,7 +247,7 @@ module _ (c d : CoreValue) (before now : Path) (turns made : ℕ) (walk rest : L
           turned : (cs : List Command) → Goes true d now (step ∷ (ahead_in c.application step.after (turns - (made + 1)) cs behind).0, (ahead_in c.application step.after (turns - (made + 1)) cs behind).1) next later (ahead_in c.application next.state (turns - (made + 1)) cs behind)
           turned cs =
               subst (λ (s : State). Goes true d now (step ∷ (ahead_in c.application s (turns - (made + 1)) cs behind).0, (ahead_in c.application s (turns - (made + 1)) cs behind).1) next later (ahead_in c.application next.state (turns - (made + 1)) cs behind)) after
-              (goes_step true d next now later step (ahead_in c.application next.state (turns - (made + 1)) cs behind) after (did.sent ∙ ap (λ (x : ScriptStep). now.sent ++ bytes_of x.acts) step_is) (subst (λ (x : ScriptStep). IsSeen now.signs x later.signs) step_is did.signs))
+              (goes_step true d next now later step (ahead_in c.application next.state (turns - (made + 1)) cs behind) after (did.sent ∙ ap (λ (x : ScriptStep). now.sent ++ bytes_of x.acts) step_is) (subst (λ (x : ScriptStep). IsSeen now.signs x later.signs) step_is did.signs) did.serial)
 
 -- ---- one command
 
@@ -261,7 +279,7 @@ command_performed asks c before command walk d after no_run tasks did = record {
   goes = λ cs.
       subst (λ (l : Ahead). Goes asks c before l d after (ahead c.application d.state cs walk)) (sym (ahead_behind c.application c.state cs command no_run walk))
       (subst (λ (s : State). Goes asks c before (command_of c.application c.state command ∷ (ahead c.application s cs walk).0, (ahead c.application s cs walk).1) d after (ahead c.application d.state cs walk)) did.state
-      (goes_step asks c d before after (command_of c.application c.state command) (ahead c.application d.state cs walk) did.state did.sent did.signs));
+      (goes_step asks c d before after (command_of c.application c.state command) (ahead c.application d.state cs walk) did.state did.sent did.signs did.serial));
 }
 
 module _ (c : CoreValue) (before : Path) (command : Command) (turns : ℕ) (is : command ≡ Run turns) (walk : List ℕ) (d : CoreValue) (after : Path) (behind : List ℕ) (run : PerformedRun c before turns walk d after behind) where

@@ -13,12 +13,13 @@ use Rattle.abstract_monitor.specs.Commands.{started}
 use Rattle.abstract_monitor.specs.State.{Application, State}
 use Rattle.laws_of_states.specs.ItemsLaws.{IsIn}
 use Rattle.lab_walks.specs.declared.signs.Signs.{Signs}
+use Rattle.lab_walks.specs.Serial.{is_serial}
 use Rattle.lab_walks.specs.Outcomes.{Result, alike, result_of, same_result, same_signs}
 use Rattle.lab_orders.specs.declared.explored.Outcome.{Outcome}
 use Rattle.lab_orders.specs.declared.performed.Found.{Found}
 use Rattle.lab_orders.specs.Exploring.{AreDistinct, IsAdded, IsCounted, IsFirst, IsOther, IsShown, IsThatOf, is_shorter}
 use Rattle.lab_orders.specs.Finding.{found_result}
-use Rattle.lab_orders.specs.Told.{AreTold, ComesTo, IsOneOf, IsTold, comes_to, outcome_result, turns_of}
+use Rattle.lab_orders.specs.Told.{AreTold, ComesTo, IsOneOf, IsTold, comes_serially, comes_to, outcome_result, turns_of}
 
 abbrev one_if : Bool → ℕ
 one_if b = cond b 1 0
@@ -74,10 +75,13 @@ module _ (app : Application) (cs : List Command) (s : State) where
   count_walks : (x : Outcome) (w : List ℕ) (walks : List (List ℕ)) → count_by (comes_to app cs s x) (w ∷ walks) ≡ one_if (comes_to app cs s x w) + count_by (comes_to app cs s x) walks
   count_walks x w walks = sum_by-cons (λ v. one_if (comes_to app cs s x v)) w walks
 
-  comes_true : (w : List ℕ) (x : Outcome) → Comes w x → comes_to app cs s x w ≡ true
+  count_serial : (x : Outcome) (w : List ℕ) (walks : List (List ℕ)) → count_by (comes_serially app cs s x) (w ∷ walks) ≡ one_if (comes_serially app cs s x w) + count_by (comes_serially app cs s x) walks
+  count_serial x w walks = sum_by-cons (λ v. one_if (comes_serially app cs s x v)) w walks
+
+  pub comes_true : (w : List ℕ) (x : Outcome) → Comes w x → comes_to app cs s x w ≡ true
   comes_true w x h = ap (same_result (outcome_result x)) (sym h) ∙ result_itself (outcome_result x)
 
-  true_comes : (w : List ℕ) (x : Outcome) → comes_to app cs s x w ≡ true → Comes w x
+  pub true_comes : (w : List ℕ) (x : Outcome) → comes_to app cs s x w ≡ true → Comes w x
   true_comes w x e = same_result_is (outcome_result x) (result_of app cs s w) e
 
   comes_false : (w : List ℕ) (x : Outcome) → (Comes w x → ⊥) → comes_to app cs s x w ≡ false
@@ -94,6 +98,10 @@ module _ (app : Application) (cs : List Command) (s : State) where
         let more = count_walks x w walks in
         let none : one_if (comes_to app cs s x w) ≡ 0 = ap one_if (comes_false w x not) in
         omega (arith, more, none, told.orders);
+    serial =
+        let more = count_serial x w walks in
+        let none : one_if (comes_serially app cs s x w) ≡ 0 = ap (λ b. one_if (b && is_serial app cs s w)) (comes_false w x not) in
+        omega (arith, more, none, told.serial);
     shown = record { among = inr told.shown.among; comes = told.shown.comes };
     shortest = shortest;
   }
@@ -115,12 +123,16 @@ module _ (app : Application) (cs : List Command) (s : State) where
           not_less : nat_lt (turns_of v) (turns_of w) ≡ false → turns_of w ≤ turns_of v
           not_less e = grind (arith, e)
 
-  module _ (found : Found) (comes : found_result found ≡ result_of app cs s found.turns) where
+  module _ (found : Found) (comes : found_result found ≡ result_of app cs s found.turns) (whole : found.serial ≡ is_serial app cs s found.turns) where
     found_comes : (x : Outcome) → IsThatOf x found → Comes found.turns x
     found_comes x same = same ∙ comes
 
     comes_found : (x : Outcome) → Comes found.turns x → IsThatOf x found
     comes_found x h = h ∙ sym comes
+
+    -- it counts if each of its transactions runs in one go
+    serial_one : (y : Outcome) → IsThatOf y found → one_if (comes_serially app cs s y found.turns) ≡ one_if found.serial
+    serial_one y that = (λ i. one_if (comes_true found.turns y (found_comes y that) i && sym whole i))
 
     -- one walk more that comes to it
     told_counted : (walks : List (List ℕ)) (x y : Outcome) → IsCounted x y found → IsTold app cs s walks x → IsTold app cs s (found.turns ∷ walks) y
@@ -130,6 +142,10 @@ module _ (app : Application) (cs : List Command) (s : State) where
           let one : one_if (comes_to app cs s y found.turns) ≡ 1 = ap one_if (comes_true found.turns y (found_comes y that)) in
           let same : count_by (comes_to app cs s y) walks ≡ count_by (comes_to app cs s x) walks = ap (λ (p : List ℕ → Bool). count_by p walks) (λ i w. same_result (counted.result i) (result_of app cs s w)) in
           omega (arith, more, one, same, told.orders, counted.orders);
+      serial =
+          let more = count_serial y found.turns walks in
+          let same : count_by (comes_serially app cs s y) walks ≡ count_by (comes_serially app cs s x) walks = ap (λ (p : List ℕ → Bool). count_by p walks) (λ i w. same_result (counted.result i) (result_of app cs s w) && is_serial app cs s w) in
+          omega (arith, more, serial_one y that, same, told.serial, counted.serial);
       shown = record { among = subst (λ (u : List ℕ). IsIn u (found.turns ∷ walks)) (sym counted.turns) (there (is_shorter found x)); comes = subst (λ (u : List ℕ). Comes u y) (sym counted.turns) (one_comes (is_shorter found x)) };
       shortest = shortest;
     }
@@ -168,6 +184,9 @@ module _ (app : Application) (cs : List Command) (s : State) where
           let more = count_walks y found.turns walks in
           let one : one_if (comes_to app cs s y found.turns) ≡ 1 = ap one_if (comes_true found.turns y (found_comes y first.same)) in
           omega (arith, more, one, first.orders, no_others walks none);
+      serial =
+          let more = count_serial y found.turns walks in
+          omega (arith, more, serial_one y first.same, first.serial, none_serial walks none);
       shown = record { among = inl (sym first.turns); comes = subst (λ (u : List ℕ). Comes u y) (sym first.turns) (found_comes y first.same) };
       shortest = shortest;
     }
@@ -178,6 +197,13 @@ module _ (app : Application) (cs : List Command) (s : State) where
             let more = count_walks y w walks in
             let no : one_if (comes_to app cs s y w) ≡ 0 = ap one_if (comes_false w y (none w (inl refl))) in
             omega (arith, more, no, no_others walks (λ v there. none v (inr there)))
+
+        none_serial : (walks : List (List ℕ)) → ((w : List ℕ) → IsIn w walks → Comes w y → ⊥) → count_by (comes_serially app cs s y) walks ≡ 0
+        none_serial [] none = refl
+        none_serial (w ∷ walks) none =
+            let more = count_serial y w walks in
+            let no : one_if (comes_serially app cs s y w) ≡ 0 = ap (λ b. one_if (b && is_serial app cs s w)) (comes_false w y (none w (inl refl))) in
+            omega (arith, more, no, none_serial walks (λ v there. none v (inr there)))
 
         shortest : (v : List ℕ) → IsOneOf app cs s (found.turns ∷ walks) y v → turns_of y.turns ≤ turns_of v
         shortest v one = by one.among

@@ -1,5 +1,6 @@
 -- What an exploration promises.
-use Rattle.std.specs.Prelude.{◌≡◌, ◌⊎◌, ◌+◌, ◌≤◌, ℕ, zero, suc, Bool, true, false, List, [], ◌∷◌, cond, length, nat_lt, sum_by, Option, Some, None}
+use Rattle.std.specs.Prelude.{◌≡◌, ◌⊎◌, ◌+◌, ◌≤◌, ℕ, zero, suc, Bool, true, false, ◌&&◌, List, [], ◌∷◌, bytes_eq, cond, length, nat_lt, sum_by, Option, Some, None}
+use Rattle.std.specs.List.{list_any}
 use Rattle.kdcs_types.specs.Tables.{TableRows}
 use Rattle.abstract_monitor.specs.declared.command.Command.{Command}
 use Rattle.abstract_monitor.specs.Commands.{started}
@@ -12,7 +13,9 @@ use Rattle.lab_orders.specs.Finding.{found_result}
 use Rattle.lab_orders.specs.Laws.{IsOrdered}
 use Rattle.lab_walks.specs.Lists.{AreOnce}
 use Rattle.lab_walks.specs.Orders.{IsOrder}
-use Rattle.lab_walks.specs.Outcomes.{HasOutcome, sent_by}
+use Rattle.abstract_monitor.specs.Bytes.{Bytes}
+use Rattle.lab_walks.specs.Outcomes.{HasOutcome, left_by, sent_by}
+use Rattle.lab_walks.specs.Serial.{is_serial}
 use Rattle.lab_orders.specs.Told.{AreMore, AreTold, AreWalks, ComesTo, outcome_result, turns_of}
 use Rattle.lab_walks.specs.Walks.{IsWalk}
 
@@ -63,6 +66,33 @@ AreDistinct (x ∷ xs) = IsOther x xs × AreDistinct xs
 -- how many orders come to these outcomes
 abbrev pub orders_of : List Outcome → ℕ
 orders_of outcomes = sum_by (λ (o : Outcome). o.orders) outcomes
+
+-- ---- whole transactions
+
+-- an order with each transaction in one go comes to these tables
+abbrev pub is_serial_with : (tables : Bytes) → Outcome → Bool
+is_serial_with tables outcome = bytes_eq outcome.tables tables && nat_lt 0 outcome.serial
+
+-- of one of the outcomes: so the tables of this one can come of whole transactions, one after another
+abbrev pub tables_are_serial : List Outcome → Outcome → Bool
+tables_are_serial outcomes x = list_any (is_serial_with x.tables) outcomes
+
+-- a walk with each transaction in one go that leaves these tables
+pub record LeavesSerially (app : Application) (t : TableRows) (commands : List Command) (tables : Bytes) (walk : List ℕ) : Type 0 where
+  pub walk_is : IsWalk app commands (started app t) walk
+  pub serial : is_serial app commands (started app t) walk ≡ true
+  pub tables_are : left_by app commands (started app t) walk ≡ tables
+
+-- there is one, or there is none
+abbrev pub SomeOrNone : Application → TableRows → List Command → (tables : Bytes) → (some : Bool) → Type 0
+SomeOrNone app t commands tables true = (walk : List ℕ) × LeavesSerially app t commands tables walk
+SomeOrNone app t commands tables false = (walk : List ℕ) → LeavesSerially app t commands tables walk → ⊥
+
+-- just so is it told of the tables of each outcome
+abbrev pub AreToldSerial : Application → TableRows → List Command → List Outcome → Type 0
+AreToldSerial app t commands outcomes = (x : Outcome) → IsIn x outcomes → SomeOrNone app t commands x.tables (tables_are_serial outcomes x)
+
+-- ---- just these walks
 
 -- distinct outcomes of just these walks
 pub record IsTally (app : Application) (t : TableRows) (commands : List Command) (walks : List (List ℕ)) (outcomes : List Outcome) : Type 0 where
@@ -132,6 +162,7 @@ pub record IsCounted (old new : Outcome) (found : Found) : Type 0 where
   pub turns : new.turns ≡ cond (is_shorter found old) found.turns old.turns
   pub sent : new.sent ≡ cond (is_shorter found old) found.sent old.sent
   pub orders : new.orders ≡ old.orders + 1
+  pub serial : new.serial ≡ old.serial + cond found.serial 1 0
 
 -- what was found is a new outcome
 pub record IsFirst (new : Outcome) (found : Found) : Type 0 where
@@ -139,6 +170,7 @@ pub record IsFirst (new : Outcome) (found : Found) : Type 0 where
   pub turns : new.turns ≡ found.turns
   pub sent : new.sent ≡ found.sent
   pub orders : new.orders ≡ 1
+  pub serial : new.serial ≡ cond found.serial 1 0
 
 -- what was found is one outcome more, or counts for the first that is the same
 abbrev pub IsAdded : (old new : List Outcome) → Found → Type 0

@@ -17,6 +17,7 @@ use Rattle.lab_orders.specs.declared.search.Seen.TheVariants as seen
 use Rattle.lab_walks.specs.Lists.{AreOnce}
 use Rattle.lab_walks.specs.Orders.{IsTurn, is_in}
 use Rattle.lab_walks.specs.Outcomes.{Result, result_of, sent_by}
+use Rattle.lab_walks.specs.Serial.{is_serial}
 use Rattle.lab_walks.specs.Frames.{IsAhead, IsFrame, IsWay, turns_in}
 use Rattle.lab_orders.specs.Walking.{tries_of}
 use Rattle.lab_walks.specs.Walks.{IsEnd, IsWalk, idle_count, stand}
@@ -38,6 +39,7 @@ pub record IsFound (app : Application) (t : TableRows) (commands : List Command)
   pub walk : IsWalk app commands (started app t) found.turns
   pub sent : found.sent ≡ sent_by app commands (started app t) found.turns
   pub result : found_result found ≡ result_of app commands (started app t) found.turns
+  pub serial : found.serial ≡ is_serial app commands (started app t) found.turns
 
 -- each task was tried: those with an effect are listed, and the others are counted
 pub record AreTried (app : Application) (s : State) (choices : List ℕ) (idle : ℕ) : Type 0 where

@@ -1,5 +1,5 @@
 -- What the code comes to where it performs a walk.
-use Rattle.std.specs.Prelude.{◌≡◌, ◌≤◌, ◌++◌, ◌||◌, ℕ, Bool, true, false, All, List, [], ◌∷◌}
+use Rattle.std.specs.Prelude.{◌≡◌, ◌≤◌, ◌++◌, ◌&&◌, ◌||◌, ℕ, Bool, true, false, All, List, [], ◌∷◌}
 use Rattle.std.specs.List.{list_any}
 use Rattle.kdcs_types.specs.Tables.{TableRows}
 use Rattle.abstract_monitor.specs.declared.command.Command.{Command}
@@ -8,6 +8,7 @@ use Rattle.abstract_monitor.specs.State.{Application, State}
 use Rattle.abstract_monitor.specs.Trace.{bytes_of, history}
 use Rattle.monitor_core.specs.CoreValue.{CoreValue}
 use Rattle.lab_walks.specs.Orders.{order_steps, turned_run, turned_script}
+use Rattle.lab_walks.specs.Serial.{is_serial_along}
 use Rattle.lab_walks.specs.Signs.{has_work, is_dump_along, is_k04, is_k05, is_refused_along, run_end, run_ends}
 use Rattle.lab_orders.specs.declared.path.Path.{Path}
 use Rattle.lab_orders.specs.declared.performed.Attempt.{Attempt}
@@ -25,6 +26,7 @@ pub record Tells (before : Path) (steps : List ScriptStep) (after : Path) : Type
   pub k04 : after.signs.k04 ≡ (before.signs.k04 || is_refused_along is_k04 steps)
   pub k05 : after.signs.k05 ≡ (before.signs.k05 || is_refused_along is_k05 steps)
   pub dump : after.signs.dump ≡ (before.signs.dump || is_dump_along steps)
+  pub serial : after.serial ≡ (before.serial && is_serial_along steps)
 
 -- the steps of a walk that are still to be done, and the states in which its RUNs are still to end
 abbrev pub Ahead : Type 0

@@ -1,5 +1,5 @@
 -- What the code of a search comes to at one command.
-use Rattle.std.specs.Prelude.{◌≡◌, ◌++◌, ◌+◌, ◌||◌, ℕ, false, []}
+use Rattle.std.specs.Prelude.{◌≡◌, ◌++◌, ◌+◌, ◌&&◌, ◌||◌, ℕ, true, false, []}
 use Rattle.kdcs_types.specs.Tables.{TableRows}
 use Rattle.abstract_monitor.specs.declared.command.Command.{Command}
 use Rattle.abstract_monitor.specs.declared.command.Command.TheVariants.{Input, Tick, Run, Turn, Drop, Print, PrintLast, Restart}
@@ -10,6 +10,7 @@ use Rattle.laws_of_states.specs.Keeping.{HasFacts}
 use Rattle.monitor_core.specs.CoreSteps.{durable_of}
 use Rattle.monitor_core.specs.CoreValue.{CoreValue}
 use Rattle.lab_walks.specs.declared.signs.Signs.{Signs}
+use Rattle.lab_walks.specs.Serial.{is_one_at_a_time}
 use Rattle.lab_walks.specs.Signs.{is_dump, is_k04, is_k05, is_refused_in}
 use Rattle.lab_orders.specs.declared.path.Path.{Path}
 
@@ -64,6 +65,7 @@ pub record Begun (app : Application) (t : TableRows) (c : CoreValue) (p : Path) 
   pub turns : p.turns ≡ []
   pub sent : p.sent ≡ []
   pub signs : HasNoSigns p.signs
+  pub serial : p.serial ≡ true
   pub steps : c.steps ≡ 0
 
 -- a command was done
@@ -74,3 +76,4 @@ pub record DidCommand (c : CoreValue) (before : Path) (command : Command) (d : C
   pub turns : after.turns ≡ before.turns
   pub sent : after.sent ≡ before.sent ++ bytes_of (command_of c.application c.state command).acts
   pub signs : IsSeen before.signs (command_of c.application c.state command) after.signs
+  pub serial : after.serial ≡ (before.serial && is_one_at_a_time d.state)

@@ -2,7 +2,7 @@
 ghost use Rattle.std.specs.Prelude.{◌≡◌, ◌↔◌, ◌+◌, ◌<◌, ◌≤◌, ◌^◌, true, false, cond, All, IsTrue, IfOk, MatchOption, OnOk, sum_by};
 ghost use Rattle.abstract_monitor.specs.Commands.{started};
 ghost use Rattle.laws_of_runs.specs.Applied.{applied};
-ghost use Rattle.lab_orders.specs.{Exploring.{AllOrMore, AreAll, AreDistinct, AreOrdered, AreOutcomes, IsAdded, IsDrawn, IsFirst, IsThatOf, IsThere, IsTried, is_shorter}, Finding.{CanStart}, Told.{AreMore, outcome_result, turns_of}};
+ghost use Rattle.lab_orders.specs.{Exploring.{AllOrMore, AreAll, AreDistinct, AreOrdered, AreOutcomes, IsAdded, IsDrawn, IsFirst, IsThatOf, IsThere, AreToldSerial, IsTried, is_shorter}, Finding.{CanStart}, Told.{AreMore, outcome_result, turns_of}};
 
 use crate::draw::drawn_order;
 use crate::laws_of_orders::{orders_are_walked, walks_are_orders};
@@ -30,6 +30,8 @@ pub struct Outcome {
     pub signs: Signs,
     /// How many of the orders that were tried come to it.
     pub orders: u64,
+    /// How many of these have each transaction in one go.
+    pub serial: u64,
     /// The shortest of these orders.
     pub turns: Turns,
     /// All that it sends: lines, each with its end.
@@ -43,6 +45,7 @@ impl Drop for Outcome {
             tables,
             signs,
             orders,
+            serial,
             turns,
             sent,
         } = self;
@@ -50,6 +53,7 @@ impl Drop for Outcome {
         let _ = tables;
         let _ = signs;
         let _ = orders;
+        let _ = serial;
         let _ = turns;
         let _ = sent;
     }
@@ -99,6 +103,12 @@ fn turns_of(turns: &[u16]) -> usize
     turns.iter().filter(|task| **task > 0).count()
 }
 
+fn one_if(it: bool) -> u64
+    ensures { result ≡ cond it 1 0 }
+{
+    if it { 1 } else { 0 }
+}
+
 impl Outcome {
     fn from_found(found: Found) -> Outcome
         ensures { IsFirst result found }
@@ -108,6 +118,7 @@ impl Outcome {
             tables: found.tables,
             signs: found.signs,
             orders: 1,
+            serial: one_if(found.serial),
             turns: found.turns,
             sent: found.sent,
         }
@@ -123,13 +134,16 @@ impl Outcome {
 
     // One order more comes to it.
     fn count(&mut self, found: Found)
-        requires { self.old.orders + 1 < 2 ^ 64 }
+        requires orders { self.old.orders + 1 < 2 ^ 64 }
+        requires serial { self.old.serial + 1 < 2 ^ 64 }
         ensures result { outcome_result self.new ≡ outcome_result self.old }
         ensures turns { self.new.turns ≡ cond (is_shorter found self.old) found.turns self.old.turns }
         ensures sent { self.new.sent ≡ cond (is_shorter found self.old) found.sent self.old.sent }
         ensures orders { self.new.orders ≡ self.old.orders + 1 }
+        ensures serial { self.new.serial ≡ self.old.serial + cond found.serial 1 0 }
     {
         self.orders += 1;
+        self.serial += one_if(found.serial);
         if turns_of(found.turns.as_slice()) < turns_of(self.turns.as_slice()) {
             self.turns = found.turns;
             self.sent = found.sent;
@@ -151,7 +165,8 @@ fn place_of(outcomes: &[Outcome], found: &Found) -> Option<usize>
 
 // What comes out of an order is among the outcomes.
 fn add(outcomes: &mut Vec<Outcome>, found: Found) -> Result<(), OutOfMemory>
-    requires { sum_by (λ o. o.orders) outcomes.old.items + 1 < 2 ^ 64 }
+    requires orders { sum_by (λ o. o.orders) outcomes.old.items + 1 < 2 ^ 64 }
+    requires serial { All (λ o. o.serial + 1 < 2 ^ 64) outcomes.old.items }
     ensures { OnOk result (IsAdded outcomes.old.items outcomes.new.items found) }
 {
     let Some(at) = place_of(outcomes.as_slice(), &found) else {
@@ -244,6 +259,7 @@ pub fn explore(
     ensures all { IfOk result (λ e. e.all ≡ true → AreAll (applied generation units) tables.now commands.now e.outcomes) }
     ensures tried { IfOk result (λ e. IsTried (applied generation units) tables.now commands.now e) }
     ensures more { IfOk result (λ e. e.all ≡ false → AreMore (applied generation units) commands.now (started (applied generation units) tables.now) most) }
+    ensures serial { IfOk result (λ e. e.all ≡ true → AreToldSerial (applied generation units) tables.now commands.now e.outcomes) }
     ensures distinct { IfOk result (λ e. AreDistinct e.outcomes) }
     ensures counted { IfOk result (λ e. sum_by (λ o. o.orders) e.outcomes ≡ e.orders) }
     ensures most { IfOk result (λ e. e.orders ≤ most) }

@@ -1,5 +1,5 @@
 //! What is kept of commands and turns as they are done.
-ghost use Rattle.std.specs.Prelude.{◌≡◌, ◌++◌, ◌∷◌, [], OnOk};
+ghost use Rattle.std.specs.Prelude.{◌≡◌, ◌++◌, ◌∷◌, [], OnOk, true};
 ghost use Rattle.abstract_monitor.specs.Trace.{bytes_of, tables_after};
 ghost use Rattle.monitor_core.specs.Keeping.{AreKept};
 ghost use Rattle.lab_orders.specs.Walking.{HasNoSigns};
@@ -20,6 +20,8 @@ pub(crate) struct Path {
     /// The durable tables.
     pub(crate) durable: Tables,
     pub(crate) signs: Signs,
+    /// No two transactions were open at once.
+    pub(crate) serial: bool,
 }
 
 // The lines among these acts are sent.
@@ -42,12 +44,14 @@ impl Path {
         ensures sent { result.sent ≡ [] }
         ensures durable { result.durable ≡ durable }
         ensures signs { HasNoSigns result.signs }
+        ensures serial { result.serial ≡ true }
     {
         Path {
             turns: Turns::new(alloc),
             sent: Bytes::new(alloc),
             durable,
             signs: no_signs(),
+            serial: true,
         }
     }
 
@@ -58,6 +62,7 @@ impl Path {
         ensures sent { OnOk result (self.new.sent ≡ self.old.sent ++ bytes_of acts) }
         ensures durable { OnOk result (self.new.durable ≡ tables_after self.old.durable acts) }
         ensures signs { OnOk result (self.new.signs ≡ self.old.signs) }
+        ensures serial { OnOk result (self.new.serial ≡ self.old.serial) }
     {
         keep_commits(&mut self.durable, acts.as_slice())?;
         send(&mut self.sent, acts.as_slice())

@@ -32,6 +32,8 @@ pub(crate) struct Found {
     /// The lines of the tables.
     pub(crate) tables: Bytes,
     pub(crate) signs: Signs,
+    /// Each transaction ran in one go.
+    pub(crate) serial: bool,
 }
 
 /// A walk to its end, or one of which a RUN ended while there was work.
@@ -195,6 +197,7 @@ fn perform_walk(
             spent: !asks,
             ..path.signs
         },
+        serial: path.serial,
     };
     Ok((generation, units, Attempt::Ended(found)))
 }

@@ -1,11 +1,11 @@
-//! What is seen of a step: requests that are refused, and dumps.
-ghost use Rattle.std.specs.{Prelude.{◌≡◌, ◌||◌, false}, List.{list_any}};
+//! What is seen of a step: requests that are refused, dumps, and transactions that are open at once.
+ghost use Rattle.std.specs.{Prelude.{◌≡◌, ◌&&◌, ◌||◌, false}, List.{list_any}};
 ghost use Rattle.abstract_monitor.specs.Commands.{maker_of};
-ghost use Rattle.lab_walks.specs.Signs.{dumps, is_dump, is_k04, is_k05, is_refused_in, refuses};
+ghost use Rattle.lab_walks.specs.{Serial.{is_one_at_a_time}, Signs.{dumps, is_dump, is_k04, is_k05, is_refused_in, refuses}};
 ghost use Rattle.lab_orders.specs.Walking.{HasNoSigns};
 
 use kdcs_types::{Code, Ending, Note};
-use lab_walks::Signs;
+use lab_walks::{Signs, stays_serial};
 use monitor_core::Core;
 use sync_points::KeptRecord;
 
@@ -138,4 +138,11 @@ pub(crate) fn seen(before: Signs, settled: &Option<KeptRecord>, core: &Core) -> 
         dump: before.dump || is_dump(settled),
         ..before
     }
+}
+
+/// No two transactions were open at once before a step, nor are in this core, which it came to.
+pub(crate) fn is_serial(before: bool, core: &Core) -> bool
+    ensures { result ≡ (before && is_one_at_a_time core.now.state) }
+{
+    stays_serial(before, core.parts().active.len())
 }

@@ -6,7 +6,7 @@ ghost use Rattle.monitor_core.specs.Commanding.{IsCoreCommand};
 ghost use Rattle.lab_orders.specs.Walking.{DidCommand, IsBeside, IsNoRun};
 
 use crate::path::Path;
-use crate::seeing::seen;
+use crate::seeing::{is_serial, seen};
 use crate::start::start;
 use abstract_monitor::Command;
 use kd_base::OutOfMemory;
@@ -35,6 +35,7 @@ fn do_core_command(
     let (next, acts) = core.apply(alloc, command)?;
     path.keep(acts)?;
     path.signs = seen(path.signs, &None, &next);
+    path.serial = is_serial(path.serial, &next);
     Ok(next)
 }
 
@@ -56,6 +57,7 @@ pub(crate) fn do_turn(
     let Turned { acts, settled, .. } = did;
     path.keep(acts)?;
     path.signs = seen(path.signs, &settled, &next);
+    path.serial = is_serial(path.serial, &next);
     Ok(next)
 }
 
@@ -70,6 +72,7 @@ fn restart(alloc: Global, core: Core, path: &mut Path) -> Result<Core, OutOfMemo
     path.sent.append(RESTARTED)?;
     let next = start(alloc, generation, units, &path.durable)?;
     path.signs = seen(path.signs, &None, &next);
+    path.serial = is_serial(path.serial, &next);
     Ok(next)
 }
 

@@ -4,5 +4,6 @@ pub mod Lists
 pub mod ListsLaws
 pub mod Orders
 pub mod Outcomes
+pub mod Serial
 pub mod Signs
 pub mod Walks

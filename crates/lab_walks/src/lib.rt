@@ -8,8 +8,10 @@
 
 mod effect;
 mod frame;
+mod serial;
 mod signs;
 
 pub use effect::shows_effect;
 pub use frame::{Frame, Turns, advance, ends, turns_of};
+pub use serial::stays_serial;
 pub use signs::Signs;

@@ -1,4 +1,4 @@
-use Rattle.std.proofs.Common.{◌<◌, ◌≤◌, List, arith, subst, sym, ◌∙◌, length}
+use Rattle.std.proofs.Common.{◌+◌, ◌<◌, ◌≤◌, ◌^◌, List, arith, subst, sym, ◌∙◌, length}
 use Rattle.std.specs.Prelude.{All}
 use Rattle.lab_orders.specs.declared.explored.Outcome.{Outcome}
 use Rattle.lab_orders.specs.Exploring.{IsAdded, IsThatOf, IsThere, orders_of}
@@ -16,14 +16,19 @@ index_mut-requires c =
     let within : c.in-Some.at < length c.args.outcomes.now.items = there_within c.args.outcomes.now.items c.args.found c.in-Some.at (subst (λ (l : List Outcome). IsThere l c.args.found c.in-Some.at) c.as_slice.ensures.value c.in-Some.ensures) in
     omega (arith, within, c.args.outcomes.now.ok.0)
 
-pub count-requires : goal.count-requires
-count-requires c =
+pub count-requires-clause-orders : goal.count-requires-clause-orders
+count-requires-clause-orders c =
     let there : IsThere c.args.outcomes.now.items c.args.found c.in-Some.at = subst (λ (l : List Outcome). IsThere l c.args.found c.in-Some.at) c.as_slice.ensures.value c.in-Some.ensures in
     let few : c.index_mut.result.now.orders ≤ orders_of c.args.outcomes.now.items = there_orders c.args.outcomes.now.items c.args.found c.in-Some.at there c.index_mut.result.now c.index_mut.ensures.value in
-    omega (arith, few, c.requires)
+    omega (arith, few, c.requires.orders)
+
+pub count-requires-clause-serial : goal.count-requires-clause-serial
+count-requires-clause-serial c =
+    let there : IsThere c.args.outcomes.now.items c.args.found c.in-Some.at = subst (λ (l : List Outcome). IsThere l c.args.found c.in-Some.at) c.as_slice.ensures.value c.in-Some.ensures in
+    subst (λ (o : Outcome). o.serial + 1 < 2 ^ 64) (sym c.index_mut.ensures.value) (c.requires.serial c.in-Some.at c.index_mut.result.now (there_within c.args.outcomes.now.items c.args.found c.in-Some.at there))
 
 pub returns : goal.returns
 returns c =
     let there : IsThere c.args.outcomes.now.items c.args.found c.in-Some.at = subst (λ (l : List Outcome). IsThere l c.args.found c.in-Some.at) c.as_slice.ensures.value c.in-Some.ensures in
     counted_there c.args.outcomes.now.items c.args.found c.in-Some.at there c.count.new.self c.index_mut.result.now
-    (λ x is same. counted_so x c.index_mut.result.now c.count.new.self c.args.found (is ∙ sym c.index_mut.ensures.value) same c.count.ensures.result c.count.ensures.turns c.count.ensures.sent c.count.ensures.orders)
+    (λ x is same. counted_so x c.index_mut.result.now c.count.new.self c.args.found (is ∙ sym c.index_mut.ensures.value) same c.count.ensures.result c.count.ensures.turns c.count.ensures.sent c.count.ensures.orders c.count.ensures.serial)

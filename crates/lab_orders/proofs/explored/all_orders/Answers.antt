@@ -1,4 +1,5 @@
-use Rattle.std.proofs.Common.{arith, subst, sym}
+use Rattle.lab_orders.proofs.Serially.{serial_few}
+use Rattle.std.proofs.Common.{◌≤◌, arith, get_or, length, subst, sym}
 use Rattle.abstract_monitor.specs.Commands.{started}
 use Rattle.abstract_monitor.specs.State.{Application}
 use Rattle.laws_of_runs.specs.Applied.{applied}
@@ -56,3 +57,12 @@ returns-clause-whole c =
     let inv = c.loop-tried.invariant in
     let down = subst (λ (a : Application). Descended a t cs c.loop-tried.frames.items c.descend-2.new.frames.items c.in_ok-generation._more) inv.can.application c.in_ok-generation.ensures.descended in
     tried_further app t cs c.loop-tried.tried c.loop-tried.outcomes.items c.loop-tried.frames.items c.descend-2.new.frames.items c.in_ok-generation._more inv.all down c.args.most (omega (arith, c.loop-tried-test.false, c.loop-tried.auto.tried-end))
+
+pub add-requires-clause-serial : goal.add-requires-clause-serial
+add-requires-clause-serial c =
+    let app = applied c.args.generation c.args.units in
+    let all = c.loop-tried.invariant.all in
+    λ k d less.
+    let few : (get_or c.loop-tried.outcomes.items k d).serial ≤ length all.walks = serial_few app c.args.tables.now c.args.commands.now all.walks c.loop-tried.outcomes.items all.tally.told k d less in
+    let number = all.number in
+    omega (arith, few, number, c.loop-tried-test.true)

@@ -1,3 +1,5 @@
+use Rattle.std.proofs.Common.{◌≤◌, arith, get_or, length}
+use Rattle.lab_orders.proofs.Serially.{serial_few}
 use Rattle.laws_of_runs.specs.Applied.{applied}
 use Rattle.lab_orders.proofs.Covering.{drawn_none, drawn_one}
 use Rattle.lab_orders.proofs.Finding.{found_next, start_again, start_next}
@@ -22,3 +24,12 @@ loop-drawn-preserved c =
       can = start_next app t cs c.loop-drawn.generation c.loop-drawn.units can c.in_ok-g.g c.in_ok-g.u c.in_ok-g.ensures.again;
       are = drawn_one app t cs c.loop-drawn._drawn c.loop-drawn.outcomes.items c.add.new.outcomes.items c.in_ok-g.found c.loop-drawn.invariant.are (found_next app t cs c.loop-drawn.generation c.loop-drawn.units can c.in_ok-g.found c.in_ok-g.ensures.order) c.in_ok-add.ensures;
     }
+
+pub add-requires-clause-serial : goal.add-requires-clause-serial
+add-requires-clause-serial c =
+    let app = applied c.args.generation c.args.units in
+    let are = c.loop-drawn.invariant.are in
+    λ k d less.
+    let few : (get_or c.loop-drawn.outcomes.items k d).serial ≤ length are.walks = serial_few app c.args.tables.now c.args.commands.now are.walks c.loop-drawn.outcomes.items are.tally.told k d less in
+    let number = are.number in
+    omega (arith, few, number, c.loop-drawn-test.true)

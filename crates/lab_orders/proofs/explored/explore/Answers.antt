@@ -1,3 +1,4 @@
+use Rattle.lab_orders.proofs.Serially.{told_serial}
 use Rattle.std.proofs.Common.{sym, subst, ◌∙◌}
 use Rattle.std.proofs.lemmas.Bool.{true≢false}
 use Rattle.std.proofs.lemmas.Result.{IfOk-weaker}
@@ -52,4 +53,16 @@ returns-in-None-clause-more c =
     let app = applied c.args.generation c.args.units in
     IfOk-weaker c.drawn_orders.result _ _
     (λ e h some. subst (AllOrMore app c.args.tables.now c.args.commands.now c.args.most) c.in-None.is c.in_ok-generation.ensures.whole)
+    c.drawn_orders.ensures
+
+pub returns-in-Some-clause-serial : goal.returns-in-Some-clause-serial
+returns-in-Some-clause-serial c all =
+    let app = applied c.args.generation c.args.units in
+    told_serial app c.args.tables.now c.args.commands.now c.args.most c.in-Some.explored (subst (AllOrMore app c.args.tables.now c.args.commands.now c.args.most) c.in-Some.is c.in_ok-generation.ensures.whole)
+
+pub returns-in-None-clause-serial : goal.returns-in-None-clause-serial
+returns-in-None-clause-serial c =
+    let app = applied c.args.generation c.args.units in
+    IfOk-weaker c.drawn_orders.result _ _
+    (λ e h all. absurd (true≢false (sym all ∙ h.all)))
     c.drawn_orders.ensures

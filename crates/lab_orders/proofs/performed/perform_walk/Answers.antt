@@ -54,5 +54,5 @@ returns-clause-performed c =
       refl,
       found_is app c.args.tables.now c.args.commands.now c.in_ok-core.core c.in_ok-core.path c.in_ok-core.ensures c.args.asks c.args.turns c.in_ok-core-2.core c.perform_all.new.path
           (subst (λ (w : List ℕ). PerformedAll c.args.asks c.in_ok-core.core c.in_ok-core.path c.args.commands.now w c.in_ok-core-2.core c.perform_all.new.path true) c.as_slice.ensures script)
-          c.requires.known c.requires.walk _ refl refl (c.in_ok-lines.ensures ∙ ap by_name c.as_slice-2.ensures) (c.in_ok-tables.ensures ∙ ap listing c.tables.ensures.value) refl refl refl c.in_ok-generation.ensures.stands refl,
+          c.requires.known c.requires.walk _ refl refl (c.in_ok-lines.ensures ∙ ap by_name c.as_slice-2.ensures) (c.in_ok-tables.ensures ∙ ap listing c.tables.ensures.value) refl refl refl c.in_ok-generation.ensures.stands refl refl,
     )

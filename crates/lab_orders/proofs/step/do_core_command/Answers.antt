@@ -1,7 +1,8 @@
 use Rattle.std.proofs.Common.{ap, ◌∙◌}
-use Rattle.std.specs.Prelude.{false, ◌||◌}
+use Rattle.std.specs.Prelude.{false, ◌&&◌, ◌||◌}
 use Rattle.abstract_monitor.specs.Commands.{command_of}
 use Rattle.lab_walks.specs.declared.signs.Signs.{Signs}
+use Rattle.lab_walks.specs.Serial.{is_one_at_a_time}
 use Rattle.lab_walks.specs.Signs.{is_k04, is_k05, is_refused_in}
 use Rattle.lab_orders.proofs.Commands.{acts_are_kept, did_command, seen_command}
 use Rattle.lab_orders.proofs.step.do_core_command.Goals as goal
@@ -21,3 +22,4 @@ returns-clause-done c =
     c.in_ok-keep.ensures.turns c.in_ok-keep.ensures.sent c.in_ok-keep.ensures.durable
     (seen_command c.args.path.now.signs c.seen-path.result c.in_ok-next.next.state (c.seen-path.ensures.k04 ∙ ap (λ (x : Signs). x.k04 || is_refused_in is_k04 c.in_ok-next.next.state) c.in_ok-keep.ensures.signs) (c.seen-path.ensures.k05 ∙ ap (λ (x : Signs). x.k05 || is_refused_in is_k05 c.in_ok-next.next.state) c.in_ok-keep.ensures.signs)
     app s c.args.command.now c.requires.core_command c.in_ok-next.ensures.exact.state (c.seen-path.ensures.dump ∙ ap (λ (x : Signs). x.dump || false) c.in_ok-keep.ensures.signs))
+    (c.is_serial-path.ensures ∙ ap (λ b. b && is_one_at_a_time c.in_ok-next.next.state) c.in_ok-keep.ensures.serial)

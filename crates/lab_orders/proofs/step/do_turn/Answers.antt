@@ -1,8 +1,9 @@
 use Rattle.abstract_monitor.specs.declared.command.Command.TheVariants.{Turn}
 use Rattle.std.proofs.Common.{ap, ◌∙◌}
-use Rattle.std.specs.Prelude.{◌||◌}
+use Rattle.std.specs.Prelude.{◌&&◌, ◌||◌}
 use Rattle.abstract_monitor.specs.Commands.{command_of, maker_of}
 use Rattle.lab_walks.specs.declared.signs.Signs.{Signs}
+use Rattle.lab_walks.specs.Serial.{is_one_at_a_time}
 use Rattle.lab_walks.specs.Signs.{is_dump, is_k04, is_k05, is_refused_in}
 use Rattle.lab_orders.proofs.Commands.{acts_are_kept, did_command, seen_turn, turn_comes, turn_commits}
 use Rattle.lab_orders.proofs.step.do_turn.Goals as goal
@@ -23,3 +24,4 @@ returns-clause-done c =
     c.in_ok-keep.ensures.turns c.in_ok-keep.ensures.sent c.in_ok-keep.ensures.durable
     (seen_turn c.args.path.now.signs c.seen-path.result c.in_ok-next.next.state (c.seen-path.ensures.k04 ∙ ap (λ (x : Signs). x.k04 || is_refused_in is_k04 c.in_ok-next.next.state) c.in_ok-keep.ensures.signs) (c.seen-path.ensures.k05 ∙ ap (λ (x : Signs). x.k05 || is_refused_in is_k05 c.in_ok-next.next.state) c.in_ok-keep.ensures.signs)
     app s c.args.task c.in_ok-next.did c.in_ok-next.ensures.exact (c.seen-path.ensures.dump ∙ ap (λ (x : Signs). x.dump || is_dump (maker_of c.in_ok-next.did.settled)) c.in_ok-keep.ensures.signs))
+    (c.is_serial-path.ensures ∙ ap (λ b. b && is_one_at_a_time c.in_ok-next.next.state) c.in_ok-keep.ensures.serial)
