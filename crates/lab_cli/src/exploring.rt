@@ -5,7 +5,7 @@ ghost use Rattle.laws_of_runs.specs.Applied.{applied};
 ghost use Rattle.laws_of_states.specs.{Keeping.{IsScriptOf}, Suits.{Suits}};
 ghost use Rattle.abstract_monitor.specs.Commands.{started};
 ghost use Rattle.lab_orders.specs.{Exploring.{AreAll, AreDistinct, AreOrdered, AreOutcomes, AreToldSerial, IsTried, is_serial_with, tables_are_serial}, Told.{AreMore}, Walking.{tries_of}};
-ghost use Rattle.lab_cli.specs.{Exploring.{do_differ, is_not_serial, is_spent, stands_still}, Places.{CanStart}};
+ghost use Rattle.lab_cli.specs.{Exploring.{do_differ, is_not_serial, is_serial, is_spent, is_unhindered, stands_still}, Places.{CanStart}};
 
 use crate::reading::Place;
 use crate::stop::Stop;
@@ -183,11 +183,35 @@ fn tables_are_serial(outcomes: &[Outcome], outcome: &Outcome) -> bool
     outcomes.iter().any(|other| is_serial_with(outcome, other))
 }
 
-// All orders are known, and none with each transaction in one go leaves the tables of the outcome.
+// No request was refused, and nothing kept a transaction from its end.
+fn is_unhindered(outcome: &Outcome) -> bool
+    ensures { result ≡ is_unhindered outcome.now }
+{
+    let signs = outcome.signs;
+    !(signs.k04 || signs.k05 || signs.standstill || signs.spent)
+}
+
+// Some orders that come to it have each transaction in one go.
+fn is_serial(outcome: &Outcome) -> bool
+    ensures { result ≡ is_serial outcome.now }
+{
+    outcome.serial > 0
+}
+
+fn one_is_serial(outcomes: &[Outcome]) -> bool
+    ensures { result ≡ list_any is_serial outcomes.now }
+{
+    outcomes.iter().any(|outcome| is_serial(outcome))
+}
+
+// All orders are known, some have each transaction in one go, and none of these leaves the tables of the outcome, in which
+// no transaction was hindered.
 fn is_not_serial(outcomes: &[Outcome], outcome: &Outcome, all: bool) -> bool
     ensures { result ≡ is_not_serial outcomes.now outcome.now all }
 {
-    all && !tables_are_serial(outcomes, outcome)
+    all && is_unhindered(outcome)
+        && one_is_serial(outcomes)
+        && !tables_are_serial(outcomes, outcome)
 }
 
 fn one_is_not_serial(outcomes: &[Outcome], all: bool) -> bool
@@ -287,8 +311,8 @@ fn explore_script<C: Console>(
 /// Tries the orders of the tasks: all, where there are at most `most`, and else as many, drawn from this number. It prints
 /// their distinct outcomes: of each how many orders come to it, the script of the shortest of them, what it sends, and the
 /// tables at its end. The status is 1 where there are two outcomes, where nobody can go on at the end of an order while a
-/// service waits, where a RUN of one ends while a task's turn has an effect, and where all orders were tried and none with
-/// each transaction in one go leaves the tables of an outcome.
+/// service waits, where a RUN of one ends while a task's turn has an effect, and where an outcome is not serial:
+/// of all orders those with each transaction in one go leave other tables, and no transaction of the outcome was hindered.
 pub fn explore_orders<C: Console>(
     alloc: Global,
     console: &mut C,
