@@ -8,8 +8,10 @@
 //! each name, the same tables and the same signs; that there is a list of the walks that were tried, of the length that it
 //! tells, in which so many come to each outcome as it counts, and none of them has fewer turns than the one that is shown;
 //! that where it answers that it tried all, each walk is in this list once, and each order's lines and tables are among
-//! the outcomes, whichever turns without effect it has; and that elsewhere there are more walks than it may try. Three laws
-//! are beside it (`laws_of_orders`); one says that the rotation of the tasks is an order. It knows no file and no device.
+//! the outcomes, whichever turns without effect it has, and it tells rightly whether some walk in which each transaction runs
+//! in one go leaves the tables of an outcome; and that elsewhere there are more walks than it may try. Four laws are
+//! beside it (`laws_of_orders`); one says that the rotation of the tasks is an order, one that the script of a walk names
+//! what the generation has. It knows no file and no device.
 #![tactic(auto)]
 
 mod draw;

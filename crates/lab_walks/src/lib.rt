@@ -2,8 +2,9 @@
 //! decides.
 //!
 //! It stands on the definitions of the monitor and on the laws of states. To a search it promises that a turn has an effect
-//! where it moves something, or its request waits otherwise after it; when 0 may end a RUN; and that the next choice leaves
-//! just those walks ahead that were still to be walked, and none where it says that no choice is left. It knows no monitor.
+//! where it moves something, or its request waits otherwise after it; when 0 may end a RUN; whether transactions ran one
+//! at a time; and that the next choice leaves just those walks ahead that were still to be walked, and none where it says
+//! that no choice is left. It knows no monitor.
 #![tactic(auto)]
 
 mod effect;
