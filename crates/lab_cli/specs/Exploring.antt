@@ -12,13 +12,17 @@ stands_still outcome = outcome.signs.standstill
 abbrev pub is_spent : Outcome → Bool
 is_spent outcome = outcome.signs.spent
 
--- an order of it has each transaction in one go
-abbrev pub has_serial : Outcome → Bool
-has_serial outcome = nat_lt 0 outcome.serial
+-- no request was refused, and nothing kept a transaction from its end
+abbrev pub is_unhindered : Outcome → Bool
+is_unhindered outcome = not (outcome.signs.k04 || outcome.signs.k05 || outcome.signs.standstill || outcome.signs.spent)
 
--- all orders are known, some have each transaction in one go, and none of these leaves its tables
+-- some orders that come to it have each transaction in one go
+abbrev pub is_serial : Outcome → Bool
+is_serial outcome = nat_lt 0 outcome.serial
+
+-- all orders are known, some have each transaction in one go, and none of these leaves the tables of the outcome, in which no transaction was hindered
 abbrev pub is_not_serial : List Outcome → Outcome → (all : Bool) → Bool
-is_not_serial outcomes outcome all = all && list_any has_serial outcomes && not (tables_are_serial outcomes outcome)
+is_not_serial outcomes outcome all = all && is_unhindered outcome && list_any is_serial outcomes && not (tables_are_serial outcomes outcome)
 
 -- there are two outcomes, or one is a standstill, or a RUN of one is spent, or one is not serial
 abbrev pub do_differ : List Outcome → (all : Bool) → Bool

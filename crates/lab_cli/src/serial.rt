@@ -1,7 +1,7 @@
 //! Outcomes that no order of whole transactions gives.
 ghost use Rattle.std.specs.{Prelude.{◌≡◌}, List.{list_any}};
 ghost use Rattle.lab_orders.specs.Exploring.{is_serial_with, tables_are_serial};
-ghost use Rattle.lab_cli.specs.Exploring.{has_serial, is_not_serial};
+ghost use Rattle.lab_cli.specs.Exploring.{is_not_serial, is_serial, is_unhindered};
 
 use lab_orders::Outcome;
 
@@ -18,15 +18,33 @@ fn tables_are_serial(outcomes: &[Outcome], outcome: &Outcome) -> bool
     outcomes.iter().any(|other| is_serial_with(outcome, other))
 }
 
-fn some_are_serial(outcomes: &[Outcome]) -> bool
-    ensures { result ≡ list_any has_serial outcomes.now }
+// No request was refused, and nothing kept a transaction from its end.
+fn is_unhindered(outcome: &Outcome) -> bool
+    ensures { result ≡ is_unhindered outcome.now }
 {
-    outcomes.iter().any(|outcome| outcome.serial > 0)
+    let signs = outcome.signs;
+    !(signs.k04 || signs.k05 || signs.standstill || signs.spent)
 }
 
-/// All orders are known, some have each transaction in one go, and none of these leaves the tables of the outcome.
+// Some orders that come to it have each transaction in one go.
+fn is_serial(outcome: &Outcome) -> bool
+    ensures { result ≡ is_serial outcome.now }
+{
+    outcome.serial > 0
+}
+
+fn one_is_serial(outcomes: &[Outcome]) -> bool
+    ensures { result ≡ list_any is_serial outcomes.now }
+{
+    outcomes.iter().any(|outcome| is_serial(outcome))
+}
+
+/// All orders are known, some have each transaction in one go, and none of these leaves the tables of the outcome, in which
+/// no transaction was hindered.
 pub(crate) fn is_not_serial(outcomes: &[Outcome], outcome: &Outcome, all: bool) -> bool
     ensures { result ≡ is_not_serial outcomes.now outcome.now all }
 {
-    all && some_are_serial(outcomes) && !tables_are_serial(outcomes, outcome)
+    all && is_unhindered(outcome)
+        && one_is_serial(outcomes)
+        && !tables_are_serial(outcomes, outcome)
 }

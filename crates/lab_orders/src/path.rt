@@ -20,7 +20,7 @@ pub(crate) struct Path {
     /// The durable tables.
     pub(crate) durable: Tables,
     pub(crate) signs: Signs,
-    /// No two transactions were open at once.
+    /// No two transactions had begun and were open at once.
     pub(crate) serial: bool,
 }
 

@@ -1,7 +1,7 @@
-//! What is seen of a step: requests that are refused, dumps, and transactions that are open at once.
-ghost use Rattle.std.specs.{Prelude.{◌≡◌, ◌&&◌, ◌||◌, false}, List.{list_any}};
+//! What is seen of a step: requests that are refused, dumps, and transactions that have begun.
+ghost use Rattle.std.specs.{Prelude.{◌≡◌, ◌&&◌, ◌||◌, count_by, false}, List.{list_any}};
 ghost use Rattle.abstract_monitor.specs.Commands.{maker_of};
-ghost use Rattle.lab_walks.specs.{Serial.{is_one_at_a_time}, Signs.{dumps, is_dump, is_k04, is_k05, is_refused_in, refuses}};
+ghost use Rattle.lab_walks.specs.{Serial.{has_begun, is_one_at_a_time}, Signs.{dumps, is_dump, is_k04, is_k05, is_refused_in, refuses}};
 ghost use Rattle.lab_orders.specs.Walking.{HasNoSigns};
 
 use kdcs_types::{Code, Ending, Note};
@@ -140,9 +140,24 @@ pub(crate) fn seen(before: Signs, settled: &Option<KeptRecord>, core: &Core) -> 
     }
 }
 
-/// No two transactions were open at once before a step, nor are in this core, which it came to.
+// How many open transactions have done a statement.
+fn begun_in(core: &Core) -> usize
+    ensures { result ≡ count_by has_begun core.now.state.active }
+{
+    let parts = core.parts();
+    let _most = parts.active.len(); // for the proof
+    let mut begun = 0;
+    for (_, transaction) in parts.active.iter() {
+        if transaction.statements > 0 {
+            begun += 1;
+        }
+    }
+    begun
+}
+
+/// No two transactions had begun and were open at once before a step, nor are in this core, which it came to.
 pub(crate) fn is_serial(before: bool, core: &Core) -> bool
     ensures { result ≡ (before && is_one_at_a_time core.now.state) }
 {
-    stays_serial(before, core.parts().active.len())
+    stays_serial(before, begun_in(core))
 }
