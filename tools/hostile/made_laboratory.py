@@ -3,6 +3,7 @@ in its order, and to warn of what is likely wrong. Of made scripts `lab trace`, 
 `utm` sends. Of made contests between two users `lab explore` has to find the outcomes, of which each is what `utm` comes
 to by the script that is printed, and where all orders were tried, no other order comes to another one."""
 
+import itertools
 import re
 import shutil
 import subprocess
@@ -431,6 +432,12 @@ class Contest:
         told = [(set(it["marks"]), self.by_names(it["SENT"]), it["TABLES"]) for it in found]
         if any(it in told[:place] for place, it in enumerate(told)):
             yield "* two outcomes are the same"
+        if found and found[0]["DIFFERS"]:
+            yield f"* the first outcome differs: {found[0]['DIFFERS']}"
+        for it in found[1:]:
+            line = self.parting(found[0]["SCRIPT"], it["SCRIPT"])
+            if it["DIFFERS"][:1] != [line]:
+                yield f"* {it['DIFFERS'][:1]} in place of {line}"
         comes_to = [(lines, tables) for _, lines, tables in told]
         marked = any("STANDSTILL" in it["marks"] or "SPENT" in it["marks"] for it in found)
         if status != (len(found) > 1 or marked):
@@ -451,12 +458,21 @@ class Contest:
         for line in lines:
             words = line.split(" ")
             if line.startswith("OUTCOME "):
-                found.append({"orders": int(words[3]), "marks": words[4:], "SCRIPT": [], "SENT": [], "TABLES": []})
+                found.append({"orders": int(words[3]), "marks": words[4:], "SCRIPT": [], "SENT": [], "TABLES": [], "DIFFERS": []})
             elif line in ("SCRIPT", "SENT", "TABLES"):
                 part = line
+            elif line.startswith("DIFFERS "):
+                part = "DIFFERS"
+                found[-1][part].append(line)
             else:
                 found[-1][part].append(line[2:])
         return found
+
+    @staticmethod
+    def parting(one, other):
+        """The line that says at which command a script parts from that of the first outcome."""
+        alike = sum(1 for _ in itertools.takewhile(lambda both: both[0] == both[1], zip(one, other)))
+        return f"DIFFERS FROM 1 AT {alike + 1}"
 
     @staticmethod
     def by_names(lines):

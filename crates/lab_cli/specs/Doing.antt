@@ -12,7 +12,7 @@ use Rattle.lab_orders.specs.declared.explored.Explored.{Explored}
 use Rattle.lab_orders.specs.declared.explored.Outcome.{Outcome}
 use Rattle.lab_orders.specs.Exploring.{AreAll, AreDistinct, AreOrdered, AreOutcomes, AreToldSerial, IsTried}
 use Rattle.lab_orders.specs.Told.{AreMore}
-use Rattle.lab_cli.specs.ExploredText.{explored_text}
+use Rattle.lab_cli.specs.ExploredText.{TellsExplored}
 use Rattle.lab_cli.specs.Exploring.{do_differ}
 use Rattle.lab_cli.specs.Places.{app_of, start_of}
 use Rattle.lab_cli.specs.declared.reading.Place.{Place}
@@ -51,10 +51,14 @@ pub record Explores (p : Place) (most : ℕ) (e : Explored) : Type 0 where
   pub at_most : e.orders ≤ most
   pub drawn : e.all ≡ false → e.orders ≡ most
 
--- what was done with a place, and the status; of what was explored the text was printed
+-- and the text that tells of them was printed
+abbrev pub PrintsExplored : {C : Type 0} → (passes : C → List Passed → C → Type 0) → (number : ℕ) → Explored → Place → (a b : C) → Type 0
+PrintsExplored passes number e p a b = (text : List ℕ) × TellsExplored (app_of p) (start_of p) p.units p.commands.items number e text × passes a (printed text) b
+
+-- what was done with a place, and the status
 abbrev pub Does : {C : Type 0} → (passes : C → List Passed → C → Type 0) → (prompted : Bool) → Word → Place → (a b : C) → (status : ℕ) → Type 0
 Does passes prompted Check p a b status = ⊥
 Does passes prompted Trace p a b status = (status ≡ 0) × Traces passes p a b
 Does passes prompted Talk p a b status = (status ≡ 0) × Talks passes prompted p a b
-Does passes prompted (Explore most number) p a b status = (e : Explored) × Explores p most e × (status ≡ cond (do_differ e.outcomes e.all) 1 0) × passes a (printed (explored_text p.commands.items number e)) b
+Does passes prompted (Explore most number) p a b status = (e : Explored) × Explores p most e × (status ≡ cond (do_differ e.outcomes e.all) 1 0) × PrintsExplored passes number e p a b
 Does passes prompted Test p a b status = Tests passes p a b status

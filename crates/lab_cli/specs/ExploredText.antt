@@ -1,13 +1,16 @@
 -- What is printed of an exploration, line by line.
-use Rattle.std.specs.Prelude.{ℕ, ◌+◌, Bool, true, false, List, [], ◌∷◌, ◌++◌, length, flat_map, codes, decimal}
+use Rattle.std.specs.Prelude.{◌≡◌, ℕ, ◌+◌, Bool, All, true, false, List, [], ◌∷◌, ◌++◌, length, flat_map, codes, decimal}
 use Rattle.std.specs.Str.Lines.{lines}
 use Rattle.abstract_monitor.specs.declared.command.Command.{Command}
 use Rattle.abstract_monitor.specs.Lines.{line}
+use Rattle.abstract_monitor.specs.State.{Application, State}
+use Rattle.laws_of_states.specs.Keeping.{IsScriptOf}
 use Rattle.lab_walks.specs.declared.signs.Signs.{Signs}
 use Rattle.lab_walks.specs.Orders.{turned_script}
 use Rattle.lab_turns.specs.Phrases.{command_text}
 use Rattle.lab_orders.specs.declared.explored.Explored.{Explored}
 use Rattle.lab_orders.specs.declared.explored.Outcome.{Outcome}
+use Rattle.lab_scripts.specs.Parting.{TellsParting}
 use Rattle.lab_cli.specs.Exploring.{is_not_serial}
 
 -- ---- the orders
@@ -62,13 +65,24 @@ parts_text commands o =
 abbrev pub outcome_text : List Command → (number : ℕ) → (not_serial : Bool) → Outcome → List ℕ
 outcome_text commands number not_serial o = outcome_line number not_serial o ++ parts_text commands o
 
+-- the script of each outcome names only what the generation has
+abbrev pub AreScripts : Application → List Command → List Outcome → Type 0
+AreScripts app commands outcomes = All (λ o. IsScriptOf app (turned_script commands o.turns)) outcomes
+
 -- ---- all of it
 
--- outcomes of an exploration, numbered from this number on
-unfoldable pub outcomes_text : List Command → Explored → (number : ℕ) → List Outcome → List ℕ
-outcomes_text commands e number [] = []
-outcomes_text commands e number (o ∷ os) = outcome_text commands number (is_not_serial e.outcomes o e.all) o ++ outcomes_text commands e (number + 1) os
+-- outcomes behind the first one, numbered from this number on: what is printed of each, and then where its script parts from that of the first one
+abbrev pub TellsOthers : Application → State → (source : List (List ℕ)) → List Command → Explored → (first : Outcome) → (number : ℕ) → List Outcome → (text : List ℕ) → Type 0
+TellsOthers app s source commands e first number [] text = text ≡ []
+TellsOthers app s source commands e first number (o ∷ os) text =
+    (told : List ℕ) × (rest : List ℕ) × TellsParting app s source 1 (turned_script commands first.turns) (turned_script commands o.turns) told × TellsOthers app s source commands e first (number + 1) os rest
+    × (text ≡ outcome_text commands number (is_not_serial e.outcomes o e.all) o ++ told ++ rest)
 
--- of these commands, where drawn orders come from this number
-unfoldable pub explored_text : List Command → (number : ℕ) → Explored → List ℕ
-explored_text commands number e = orders_line number e ++ outcomes_text commands e 1 e.outcomes
+-- outcomes of an exploration, from the first one on
+abbrev pub TellsOutcomes : Application → State → (source : List (List ℕ)) → List Command → Explored → List Outcome → (text : List ℕ) → Type 0
+TellsOutcomes app s source commands e [] text = text ≡ []
+TellsOutcomes app s source commands e (o ∷ os) text = (rest : List ℕ) × TellsOthers app s source commands e o 2 os rest × (text ≡ outcome_text commands 1 (is_not_serial e.outcomes o e.all) o ++ rest)
+
+-- this text tells all of an exploration of these commands from this state, where drawn orders come from this number
+abbrev pub TellsExplored : Application → State → (source : List (List ℕ)) → List Command → (number : ℕ) → Explored → (text : List ℕ) → Type 0
+TellsExplored app s source commands number e text = (rest : List ℕ) × TellsOutcomes app s source commands e e.outcomes rest × (text ≡ orders_line number e ++ rest)

@@ -1,12 +1,12 @@
 //! `explore`: the distinct outcomes of the orders of the tasks.
-ghost use Rattle.std.specs.{Prelude.{◌≡◌, ◌≤◌, ◌^◌, [], true, false, cond, IfOk, IfSome, IsTrue, OnOk, sum_by}, List.{list_any}};
+ghost use Rattle.std.specs.{Prelude.{◌≡◌, ◌≤◌, ◌^◌, ℕ, List, [], true, false, cond, IfOk, IfSome, IsTrue, OnOk, sum_by}, List.{list_any}};
 ghost use Rattle.application_types.specs.Fitted.{IsFit};
 ghost use Rattle.laws_of_runs.specs.Applied.{applied};
 ghost use Rattle.laws_of_states.specs.{Keeping.{IsScriptOf}, Suits.{Suits}};
 ghost use Rattle.abstract_monitor.specs.Commands.{started};
 ghost use Rattle.lab_orders.specs.{Exploring.{AreAll, AreDistinct, AreOrdered, AreOutcomes, AreToldSerial, IsTried}, Told.{AreMore}, Walking.{tries_of}};
 ghost use Rattle.lab_turns.specs.Consoles.{printed};
-ghost use Rattle.lab_cli.specs.{ExploredText.{explored_text}, Exploring.{do_differ, is_not_serial, is_spent, stands_still}, Places.{CanStart}};
+ghost use Rattle.lab_cli.specs.{ExploredText.{TellsExplored}, Exploring.{do_differ, is_not_serial, is_spent, stands_still}, Places.{CanStart}};
 
 use crate::printing::print_explored;
 use crate::reading::Place;
@@ -15,7 +15,9 @@ use abstract_monitor::Command;
 use application_read::Application;
 use kd_base::OutOfMemory;
 use kdcs_types::Tables;
+use lab_orders::laws_of_orders::walks_are_scripts;
 use lab_orders::{Explored, Outcome, explore};
+use lab_scripts::Setting;
 use lab_turns::LabError;
 use lab_turns::lab_printing::Console;
 use refusals::Status;
@@ -126,42 +128,55 @@ fn can_be_counted(commands: &[Command]) -> bool
 fn explore_script<C: Console>(
     alloc: Global,
     console: &mut C,
-    application: Application,
+    setting: Setting,
     tables: &Tables,
     commands: &[Command],
     most: u64,
     number: u64,
 ) -> Result<Explored, LabError>
-    requires fit { IsFit application.generation application.units }
-    requires suits { Suits application.generation tables.now }
-    requires names { IsScriptOf (applied application.generation application.units) commands.now }
-    ensures outcomes { IfOk result (λ e. AreOutcomes (applied application.generation application.units) tables.now commands.now e.outcomes) }
-    ensures orders { IfOk result (λ e. AreOrdered (applied application.generation application.units) tables.now commands.now e.outcomes) }
-    ensures all { IfOk result (λ e. e.all ≡ true → AreAll (applied application.generation application.units) tables.now commands.now e.outcomes) }
-    ensures tried { IfOk result (λ e. IsTried (applied application.generation application.units) tables.now commands.now e) }
-    ensures more { IfOk result (λ e. e.all ≡ false → AreMore (applied application.generation application.units) commands.now (started (applied application.generation application.units) tables.now) most) }
-    ensures serial { IfOk result (λ e. e.all ≡ true → AreToldSerial (applied application.generation application.units) tables.now commands.now e.outcomes) }
+    requires fit { IsFit setting.generation setting.units }
+    requires suits { Suits setting.generation tables.now }
+    requires names { IsScriptOf (applied setting.generation setting.units) commands.now }
+    ensures outcomes { IfOk result (λ e. AreOutcomes (applied setting.generation setting.units) tables.now commands.now e.outcomes) }
+    ensures orders { IfOk result (λ e. AreOrdered (applied setting.generation setting.units) tables.now commands.now e.outcomes) }
+    ensures all { IfOk result (λ e. e.all ≡ true → AreAll (applied setting.generation setting.units) tables.now commands.now e.outcomes) }
+    ensures tried { IfOk result (λ e. IsTried (applied setting.generation setting.units) tables.now commands.now e) }
+    ensures more { IfOk result (λ e. e.all ≡ false → AreMore (applied setting.generation setting.units) commands.now (started (applied setting.generation setting.units) tables.now) most) }
+    ensures serial { IfOk result (λ e. e.all ≡ true → AreToldSerial (applied setting.generation setting.units) tables.now commands.now e.outcomes) }
     ensures distinct { IfOk result (λ e. AreDistinct e.outcomes) }
     ensures counted { IfOk result (λ e. sum_by (λ o. o.orders) e.outcomes ≡ e.orders) }
     ensures most { IfOk result (λ e. e.orders ≤ most) }
     ensures drawn { IfOk result (λ e. e.all ≡ false → e.orders ≡ most) }
-    ensures printed { IfOk result (λ e. C.passes console.old (printed (explored_text commands.now number e)) console.new) }
+    ensures printed { IfOk result (λ e. (text : List ℕ) × TellsExplored (applied setting.generation setting.units) (started (applied setting.generation setting.units) tables.now) setting.source commands.now number e text × C.passes console.old (printed text) console.new) }
 {
     if !can_be_counted(commands) {
         return Err(LabError::Spent);
     }
     tell_most(alloc, console, most)?;
-    let Application { generation, units } = application;
-    let explored = explore(alloc, generation, units, tables, commands, most, number)?;
-    print_explored(alloc, console, &explored, commands, number)?;
+    let Setting {
+        generation,
+        units,
+        source,
+    } = setting;
+    walks_are_scripts();
+    let (generation, units, explored) = explore(
+        alloc, generation, units, tables, commands, most, number,
+    )?;
+    let setting = Setting {
+        generation,
+        units,
+        source,
+    };
+    print_explored(alloc, console, setting, tables, &explored, commands, number)?;
     Ok(explored)
 }
 
 /// Tries the orders of the tasks: all, where there are at most `most`, and else as many, drawn from this number. It prints
-/// their distinct outcomes: of each how many orders come to it, the script of the shortest of them, what it sends, and the
-/// tables at its end. The status is 1 where there are two outcomes, where nobody can go on at the end of an order while a
-/// service waits, where a RUN of one ends while a task's turn has an effect, and where all orders were tried and none with
-/// each transaction in one go leaves the tables of an outcome.
+/// their distinct outcomes: of each how many orders come to it, the script of the shortest of them, what it sends, the
+/// tables at its end, and of each but the first where its script parts from that of the first. The status is 1 where there
+/// are two outcomes, where nobody can go on at the end of an order while a service waits, where a RUN of one ends while a
+/// task's turn has an effect, and where all orders were tried and none with each transaction in one go leaves the tables of
+/// an outcome.
 pub fn explore_orders<C: Console>(
     alloc: Global,
     console: &mut C,
@@ -180,24 +195,23 @@ pub fn explore_orders<C: Console>(
     ensures counted { IfOk result (λ r. sum_by (λ o. o.orders) r.1.outcomes ≡ r.1.orders) }
     ensures most { IfOk result (λ r. r.1.orders ≤ most) }
     ensures drawn { IfOk result (λ r. r.1.all ≡ false → r.1.orders ≡ most) }
-    ensures printed { IfOk result (λ r. C.passes console.old (printed (explored_text place.commands.items number r.1)) console.new) }
+    ensures printed { IfOk result (λ r. (text : List ℕ) × TellsExplored (applied place.application.generation place.application.units) (started (applied place.application.generation place.application.units) place.tables) place.units place.commands.items number r.1 text × C.passes console.old (printed text) console.new) }
     ensures status { IfOk result (λ r. r.0.code ≡ cond (do_differ r.1.outcomes r.1.all) 1 0) }
 {
     let Place {
         application,
         tables,
+        units: source,
+        script: _,
         commands,
-        ..
     } = place;
-    let explored = explore_script(
-        alloc,
-        console,
-        application,
-        &tables,
-        &commands,
-        most,
-        number,
-    )?;
+    let Application { generation, units } = application;
+    let setting = Setting {
+        generation,
+        units,
+        source,
+    };
+    let explored = explore_script(alloc, console, setting, &tables, &commands, most, number)?;
     let status = status_of(explored.outcomes.as_slice(), explored.all);
     Ok((status, explored))
 }

@@ -8,8 +8,9 @@
 //!
 //! To the program above, its contract says that `lab` works on just what the texts and the files of its BASE are, and does
 //! from there what lab_scripts and lab_orders say of its word; that it is refused for its cause alone, with the line and
-//! the status of `utm`; that `explore` prints just the text of its outcomes, which a definition says line by line; and that
-//! words of no form get the usage line. What `check` prints, no clause says.
+//! the status of `utm`; that `explore` prints just the text of its outcomes, which a definition says line by line, with
+//! where the script of each parts from that of the first, as lab_scripts says; and that words of no form get the usage
+//! line. What `check` prints, no clause says.
 #![tactic(auto)]
 
 mod checking;

@@ -1,12 +1,18 @@
 //! What is printed of an exploration.
-ghost use Rattle.std.specs.Prelude.{◌≡◌, ◌++◌, IfOk, OnOk, codes, decimal, flat_map};
+ghost use Rattle.std.specs.Prelude.{◌≡◌, ◌++◌, ℕ, List, IfOk, OnOk, codes, decimal, flat_map};
+ghost use Rattle.application_types.specs.Fitted.{IsFit};
+ghost use Rattle.abstract_monitor.specs.Commands.{started};
+ghost use Rattle.laws_of_runs.specs.Applied.{applied};
+ghost use Rattle.laws_of_states.specs.Suits.{Suits};
 ghost use Rattle.lab_turns.specs.Consoles.{printed};
-ghost use Rattle.lab_cli.specs.ExploredText.{chosen_text, command_below, explored_text, line_below, lines_below, orders_line, outcome_line, outcome_text, outcomes_text, parts_text, sign_text, signs_text};
+ghost use Rattle.lab_cli.specs.{ExploredText.{AreScripts, TellsExplored, TellsOutcomes, chosen_text, command_below, line_below, lines_below, orders_line, outcome_line, outcome_text, parts_text, sign_text, signs_text}, Exploring.{is_not_serial}};
 
 use crate::serial::is_not_serial;
 use abstract_monitor::Command;
 use kd_base::{Bytes, OutOfMemory};
+use kdcs_types::Tables;
 use lab_orders::{Explored, Outcome, Signs, turned};
+use lab_scripts::{Setting, tell_parting};
 use lab_turns::LabError;
 use lab_turns::lab_printing::{Console, put_command, put_number};
 use std::alloc::Global;
@@ -152,38 +158,68 @@ fn orders_line(alloc: Global, explored: &Explored, number: u64) -> Result<Bytes,
     Ok(out)
 }
 
-// Prints the outcomes, one after another.
-fn print_outcomes<C: Console>(
-    alloc: Global,
-    console: &mut C,
-    explored: &Explored,
-    commands: &[Command],
-) -> Result<(), LabError>
-    ensures { OnOk result (C.passes console.old (printed (outcomes_text commands.now explored.now 1 explored.now.outcomes)) console.new) }
-{
-    let outcomes = explored.outcomes.as_slice();
-    let mut number: u64 = 1;
-    for outcome in outcomes {
-        let not_serial = is_not_serial(outcomes, outcome, explored.all);
-        let text = outcome_text(alloc, number, not_serial, outcome, commands)?;
-        console.put(text.as_slice())?;
-        number += 1;
-    }
-    Ok(())
-}
-
-/// Prints the outcomes of these commands, the shortest order of each, and how many orders were tried. Those that are drawn
-/// are drawn from this number.
-pub(crate) fn print_explored<C: Console>(
+// Prints an outcome of these, which has this number.
+fn print_outcome<C: Console>(
     alloc: Global,
     console: &mut C,
     explored: &Explored,
     commands: &[Command],
     number: u64,
+    outcome: &Outcome,
 ) -> Result<(), LabError>
-    ensures { OnOk result (C.passes console.old (printed (explored_text commands.now number explored.now)) console.new) }
+    ensures { OnOk result (C.passes console.old (printed (outcome_text commands.now number (is_not_serial explored.now.outcomes outcome.now explored.now.all) outcome.now)) console.new) }
+{
+    let not_serial = is_not_serial(explored.outcomes.as_slice(), outcome, explored.all);
+    let text = outcome_text(alloc, number, not_serial, outcome, commands)?;
+    console.put(text.as_slice())
+}
+
+// Prints the outcomes, one after another, and of each but the first where its script parts from that of the first.
+fn print_outcomes<C: Console>(
+    alloc: Global,
+    console: &mut C,
+    mut setting: Setting,
+    tables: &Tables,
+    explored: &Explored,
+    commands: &[Command],
+) -> Result<(), LabError>
+    requires fit { IsFit setting.generation setting.units }
+    requires suits { Suits setting.generation tables.now }
+    requires names { AreScripts (applied setting.generation setting.units) commands.now explored.now.outcomes }
+    ensures { OnOk result ((text : List ℕ) × TellsOutcomes (applied setting.generation setting.units) (started (applied setting.generation setting.units) tables.now) setting.source commands.now explored.now explored.now.outcomes text × C.passes console.old (printed text) console.new) }
+{
+    let Some((first, others)) = explored.outcomes.as_slice().split_first() else {
+        return Ok(());
+    };
+    print_outcome(alloc, console, explored, commands, 1, first)?;
+    let one = turned(alloc, commands, first.turns.as_slice())?;
+    let mut number: u64 = 2;
+    for outcome in others {
+        print_outcome(alloc, console, explored, commands, number, outcome)?;
+        let other = turned(alloc, commands, outcome.turns.as_slice())?;
+        setting = tell_parting(alloc, console, setting, tables, 1, &one, &other)?;
+        number += 1;
+    }
+    Ok(())
+}
+
+/// Prints the outcomes of these commands, from these tables, the shortest order of each, and how many orders were tried;
+/// behind each but the first where its script parts from that of the first. Those that are drawn are drawn from this number.
+pub(crate) fn print_explored<C: Console>(
+    alloc: Global,
+    console: &mut C,
+    setting: Setting,
+    tables: &Tables,
+    explored: &Explored,
+    commands: &[Command],
+    number: u64,
+) -> Result<(), LabError>
+    requires fit { IsFit setting.generation setting.units }
+    requires suits { Suits setting.generation tables.now }
+    requires names { AreScripts (applied setting.generation setting.units) commands.now explored.now.outcomes }
+    ensures { OnOk result ((text : List ℕ) × TellsExplored (applied setting.generation setting.units) (started (applied setting.generation setting.units) tables.now) setting.source commands.now number explored.now text × C.passes console.old (printed text) console.new) }
 {
     let line = orders_line(alloc, explored, number)?;
     console.put(line.as_slice())?;
-    print_outcomes(alloc, console, explored, commands)
+    print_outcomes(alloc, console, setting, tables, explored, commands)
 }

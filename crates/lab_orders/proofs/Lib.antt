@@ -7,6 +7,7 @@ pub mod Ended
 pub mod Exploring
 pub mod Finding
 pub mod Found
+pub mod Named
 pub mod Ordered
 pub mod Performing
 pub mod Placing

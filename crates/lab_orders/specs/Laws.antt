@@ -9,7 +9,7 @@ use Rattle.abstract_monitor.specs.Trace.{history}
 use Rattle.laws_of_states.specs.Applications.{IsApplication}
 use Rattle.laws_of_states.specs.Keeping.{IsScriptOf}
 use Rattle.laws_of_states.specs.Suits.{Suits}
-use Rattle.lab_walks.specs.Orders.{IsOrder, order_steps, worked}
+use Rattle.lab_walks.specs.Orders.{IsOrder, order_steps, turned_script, worked}
 use Rattle.lab_walks.specs.Outcomes.{HasOutcome}
 use Rattle.lab_walks.specs.Walks.{IsWalk}
 
@@ -47,3 +47,7 @@ pub record IsRotation (app : Application) (t : TableRows) (cs : List Command) (o
 -- there is one
 abbrev pub RotationsAreOrders : Type 0
 RotationsAreOrders = (app : Application) (t : TableRows) (cs : List Command) → Starts app t cs → (order : List ℕ) × IsRotation app t cs order
+
+-- the script that a walk stands for names what the generation has, as the script of which it is a walk does
+abbrev pub WalksAreScripts : Type 0
+WalksAreScripts = (app : Application) (cs : List Command) (s : State) (walk : List ℕ) → IsScriptOf app cs → IsWalk app cs s walk → IsScriptOf app (turned_script cs walk)

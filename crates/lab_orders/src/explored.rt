@@ -223,9 +223,10 @@ fn drawn_orders(
     commands: &[Command],
     most: u64,
     number: u64,
-) -> Result<Explored, OutOfMemory>
+) -> Result<(Generation, Units, Explored), OutOfMemory>
     requires { CanStart (applied generation units) tables.now commands.now generation units }
-    ensures { IfOk result (λ e. IsDrawn (applied generation units) tables.now commands.now most e) }
+    ensures again { IfOk result (λ n. CanStart (applied generation units) tables.now commands.now n.0 n.1) }
+    ensures drawn { IfOk result (λ n. IsDrawn (applied generation units) tables.now commands.now most n.2) }
 {
     let mut numbers = SplitMix64::seed_from_u64(number);
     let mut outcomes = Vec::new(alloc);
@@ -235,15 +236,17 @@ fn drawn_orders(
         units = u;
         add(&mut outcomes, found)?;
     }
-    Ok(Explored {
+    let explored = Explored {
         outcomes: Sequence::from_vec(outcomes),
         orders: most,
         all: false,
-    })
+    };
+    Ok((generation, units, explored))
 }
 
 /// Tries orders of a script, from these tables, and keeps their distinct outcomes: all orders, where these are at most so
-/// many, else so many that are drawn, each turn of a RUN by pseudo-random numbers that follow from this one.
+/// many, else so many that are drawn, each turn of a RUN by pseudo-random numbers that follow from this one. The generation
+/// and the units come back beside them.
 pub fn explore(
     alloc: Global,
     generation: Generation,
@@ -252,18 +255,19 @@ pub fn explore(
     commands: &[Command],
     most: u64,
     number: u64,
-) -> Result<Explored, OutOfMemory>
+) -> Result<(Generation, Units, Explored), OutOfMemory>
     requires { CanStart (applied generation units) tables.now commands.now generation units }
-    ensures outcomes { IfOk result (λ e. AreOutcomes (applied generation units) tables.now commands.now e.outcomes) }
-    ensures orders { IfOk result (λ e. AreOrdered (applied generation units) tables.now commands.now e.outcomes) }
-    ensures all { IfOk result (λ e. e.all ≡ true → AreAll (applied generation units) tables.now commands.now e.outcomes) }
-    ensures tried { IfOk result (λ e. IsTried (applied generation units) tables.now commands.now e) }
-    ensures more { IfOk result (λ e. e.all ≡ false → AreMore (applied generation units) commands.now (started (applied generation units) tables.now) most) }
-    ensures serial { IfOk result (λ e. e.all ≡ true → AreToldSerial (applied generation units) tables.now commands.now e.outcomes) }
-    ensures distinct { IfOk result (λ e. AreDistinct e.outcomes) }
-    ensures counted { IfOk result (λ e. sum_by (λ o. o.orders) e.outcomes ≡ e.orders) }
-    ensures most { IfOk result (λ e. e.orders ≤ most) }
-    ensures drawn { IfOk result (λ e. e.all ≡ false → e.orders ≡ most) }
+    ensures again { IfOk result (λ r. CanStart (applied generation units) tables.now commands.now r.0 r.1) }
+    ensures outcomes { IfOk result (λ r. AreOutcomes (applied generation units) tables.now commands.now r.2.outcomes) }
+    ensures orders { IfOk result (λ r. AreOrdered (applied generation units) tables.now commands.now r.2.outcomes) }
+    ensures all { IfOk result (λ r. r.2.all ≡ true → AreAll (applied generation units) tables.now commands.now r.2.outcomes) }
+    ensures tried { IfOk result (λ r. IsTried (applied generation units) tables.now commands.now r.2) }
+    ensures more { IfOk result (λ r. r.2.all ≡ false → AreMore (applied generation units) commands.now (started (applied generation units) tables.now) most) }
+    ensures serial { IfOk result (λ r. r.2.all ≡ true → AreToldSerial (applied generation units) tables.now commands.now r.2.outcomes) }
+    ensures distinct { IfOk result (λ r. AreDistinct r.2.outcomes) }
+    ensures counted { IfOk result (λ r. sum_by (λ o. o.orders) r.2.outcomes ≡ r.2.orders) }
+    ensures most { IfOk result (λ r. r.2.orders ≤ most) }
+    ensures drawn { IfOk result (λ r. r.2.all ≡ false → r.2.orders ≡ most) }
 {
     orders_are_walked();
     walks_are_orders();
@@ -271,7 +275,7 @@ pub fn explore(
     let _clock = tables.clock(); // for the proof
     let (generation, units, whole) = all_orders(alloc, generation, units, tables, commands, most)?;
     match whole {
-        Some(explored) => Ok(explored),
+        Some(explored) => Ok((generation, units, explored)),
         None => drawn_orders(alloc, generation, units, tables, commands, most, number),
     }
 }

@@ -1,5 +1,5 @@
 //! Laws of orders and walks.
-ghost use Rattle.lab_orders.specs.Laws.{OrdersAreWalked, RotationsAreOrders, WalksAreOrders};
+ghost use Rattle.lab_orders.specs.Laws.{OrdersAreWalked, RotationsAreOrders, WalksAreOrders, WalksAreScripts};
 
 use laws_of_states::laws_of_places::facts_hold_along;
 use laws_of_states::laws_of_tables::states_stay_sound;
@@ -15,6 +15,11 @@ pub fn orders_are_walked()
 /// Each walk is an order without its turns without effect.
 pub fn walks_are_orders()
     ensures { WalksAreOrders }
+{}
+
+/// The script that a walk stands for names what the generation has, so that it can be performed.
+pub fn walks_are_scripts()
+    ensures { WalksAreScripts }
 {}
 
 /// The rotation of the tasks, by which `utm` performs a script, is an order: some order has the very steps of the script.

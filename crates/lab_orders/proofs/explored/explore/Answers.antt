@@ -4,6 +4,7 @@ use Rattle.std.proofs.lemmas.Bool.{true≢false}
 use Rattle.std.proofs.lemmas.Result.{IfOk-weaker}
 use Rattle.abstract_monitor.specs.State.{Application}
 use Rattle.laws_of_runs.specs.Applied.{applied}
+use Rattle.lab_orders.specs.Finding.{CanStart}
 use Rattle.lab_orders.specs.Exploring.{AllOrMore, IsDrawn}
 use Rattle.lab_orders.proofs.Covering.{ordered, orders_shown, tried_drawn, tried_whole}
 use Rattle.lab_orders.proofs.explored.explore.Goals as goal
@@ -37,23 +38,23 @@ pub returns-in-None-clause-orders : goal.returns-in-None-clause-orders
 returns-in-None-clause-orders c =
     let app = applied c.args.generation c.args.units in
     IfOk-weaker c.drawn_orders.result _ _
-    (λ e h. ordered c.walks_are_orders.ensures app c.args.tables.now c.args.commands.now e.outcomes
-    (subst (λ (a : Application). IsDrawn a c.args.tables.now c.args.commands.now c.args.most e) c.in_ok-generation.ensures.again.application h).tally.each)
-    c.drawn_orders.ensures
+    (λ r h. ordered c.walks_are_orders.ensures app c.args.tables.now c.args.commands.now r.2.outcomes
+    (subst (λ (a : Application). IsDrawn a c.args.tables.now c.args.commands.now c.args.most r.2) c.in_ok-generation.ensures.again.application h).tally.each)
+    c.drawn_orders.ensures.drawn
 
 pub returns-in-None-clause-tried : goal.returns-in-None-clause-tried
 returns-in-None-clause-tried c =
     let app = applied c.args.generation c.args.units in
     IfOk-weaker c.drawn_orders.result _ _
-    (λ e h. tried_drawn app c.args.tables.now c.args.commands.now c.args.most e (subst (λ (a : Application). IsDrawn a c.args.tables.now c.args.commands.now c.args.most e) c.in_ok-generation.ensures.again.application h))
-    c.drawn_orders.ensures
+    (λ r h. tried_drawn app c.args.tables.now c.args.commands.now c.args.most r.2 (subst (λ (a : Application). IsDrawn a c.args.tables.now c.args.commands.now c.args.most r.2) c.in_ok-generation.ensures.again.application h))
+    c.drawn_orders.ensures.drawn
 
 pub returns-in-None-clause-more : goal.returns-in-None-clause-more
 returns-in-None-clause-more c =
     let app = applied c.args.generation c.args.units in
     IfOk-weaker c.drawn_orders.result _ _
-    (λ e h some. subst (AllOrMore app c.args.tables.now c.args.commands.now c.args.most) c.in-None.is c.in_ok-generation.ensures.whole)
-    c.drawn_orders.ensures
+    (λ r h some. subst (AllOrMore app c.args.tables.now c.args.commands.now c.args.most) c.in-None.is c.in_ok-generation.ensures.whole)
+    c.drawn_orders.ensures.drawn
 
 pub returns-in-Some-clause-serial : goal.returns-in-Some-clause-serial
 returns-in-Some-clause-serial c all =
@@ -64,5 +65,11 @@ pub returns-in-None-clause-serial : goal.returns-in-None-clause-serial
 returns-in-None-clause-serial c =
     let app = applied c.args.generation c.args.units in
     IfOk-weaker c.drawn_orders.result _ _
-    (λ e h all. absurd (true≢false (sym all ∙ h.all)))
-    c.drawn_orders.ensures
+    (λ r h all. absurd (true≢false (sym all ∙ h.all)))
+    c.drawn_orders.ensures.drawn
+
+pub returns-in-None-clause-again : goal.returns-in-None-clause-again
+returns-in-None-clause-again c =
+    IfOk-weaker c.drawn_orders.result _ _
+    (λ r can. subst (λ (a : Application). CanStart a c.args.tables.now c.args.commands.now r.0 r.1) c.in_ok-generation.ensures.again.application can)
+    c.drawn_orders.ensures.again
