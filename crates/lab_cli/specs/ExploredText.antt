@@ -1,6 +1,5 @@
 -- What is printed of an exploration, line by line.
 use Rattle.std.specs.Prelude.{◌≡◌, ℕ, ◌+◌, Bool, All, true, false, List, [], ◌∷◌, ◌++◌, length, flat_map, codes, decimal}
-use Rattle.std.specs.Str.Lines.{lines}
 use Rattle.abstract_monitor.specs.declared.command.Command.{Command}
 use Rattle.abstract_monitor.specs.Lines.{line}
 use Rattle.abstract_monitor.specs.State.{Application, State}
@@ -10,7 +9,7 @@ use Rattle.lab_walks.specs.Orders.{turned_script}
 use Rattle.lab_turns.specs.Phrases.{command_text}
 use Rattle.lab_orders.specs.declared.explored.Explored.{Explored}
 use Rattle.lab_orders.specs.declared.explored.Outcome.{Outcome}
-use Rattle.lab_scripts.specs.Parting.{TellsParting}
+use Rattle.lab_scripts.specs.Parting.{TellsParting, indented, indented_line}
 use Rattle.lab_cli.specs.Exploring.{is_not_serial}
 
 -- ---- the orders
@@ -43,24 +42,16 @@ signs_text signs =
 abbrev pub outcome_line : (number : ℕ) → (not_serial : Bool) → Outcome → List ℕ
 outcome_line number not_serial o = line (codes "OUTCOME " ++ decimal number ++ codes " ORDERS " ++ decimal o.orders ++ signs_text o.signs ++ sign_text (codes " NOT SERIAL") not_serial)
 
--- a line of its own, two blanks in front
-abbrev pub line_below : (text : List ℕ) → List ℕ
-line_below text = line (codes "  " ++ text)
-
 -- a command, as a script has it
 abbrev pub command_below : Command → List ℕ
-command_below command = line_below (command_text command)
-
--- each line of a text
-abbrev pub lines_below : (text : List ℕ) → List ℕ
-lines_below text = flat_map line_below (lines text)
+command_below command = indented_line (command_text command)
 
 -- the script of the order that it shows, what this order sends, and the tables at its end
 abbrev pub parts_text : List Command → Outcome → List ℕ
 parts_text commands o =
     codes "SCRIPT\n" ++ flat_map command_below (turned_script commands o.turns)
-    ++ codes "SENT\n" ++ lines_below o.sent
-    ++ codes "TABLES\n" ++ lines_below o.tables
+    ++ codes "SENT\n" ++ indented o.sent
+    ++ codes "TABLES\n" ++ indented o.tables
 
 abbrev pub outcome_text : List Command → (number : ℕ) → (not_serial : Bool) → Outcome → List ℕ
 outcome_text commands number not_serial o = outcome_line number not_serial o ++ parts_text commands o

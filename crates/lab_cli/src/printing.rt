@@ -5,18 +5,17 @@ ghost use Rattle.abstract_monitor.specs.Commands.{started};
 ghost use Rattle.laws_of_runs.specs.Applied.{applied};
 ghost use Rattle.laws_of_states.specs.Suits.{Suits};
 ghost use Rattle.lab_turns.specs.Consoles.{printed};
-ghost use Rattle.lab_cli.specs.{ExploredText.{AreScripts, TellsExplored, TellsOutcomes, chosen_text, command_below, line_below, lines_below, orders_line, outcome_line, outcome_text, parts_text, sign_text, signs_text}, Exploring.{is_not_serial}};
+ghost use Rattle.lab_cli.specs.{ExploredText.{AreScripts, TellsExplored, TellsOutcomes, chosen_text, command_below, orders_line, outcome_line, outcome_text, parts_text, sign_text, signs_text}, Exploring.{is_not_serial}};
 
 use crate::serial::is_not_serial;
 use abstract_monitor::Command;
 use kd_base::{Bytes, OutOfMemory};
 use kdcs_types::Tables;
 use lab_orders::{Explored, Outcome, Signs, turned};
-use lab_scripts::{Setting, tell_parting};
+use lab_scripts::{Setting, put_indented, tell_parting};
 use lab_turns::LabError;
 use lab_turns::lab_printing::{Console, put_command, put_number};
 use std::alloc::Global;
-use texts::next_line;
 
 // The word of a sign, where the outcome has it.
 fn put_sign(out: &mut Bytes, word: &[u8], has: bool) -> Result<(), OutOfMemory>
@@ -73,27 +72,6 @@ fn put_script(alloc: Global, out: &mut Bytes, commands: &[Command]) -> Result<()
     Ok(())
 }
 
-fn put_line_below(out: &mut Bytes, line: &[u8]) -> Result<(), OutOfMemory>
-    ensures { OnOk result (out.new ≡ out.old ++ line_below line.now) }
-{
-    out.append(b"  ")?;
-    out.append(line)?;
-    out.push(b'\n')
-}
-
-// The lines of a text, each after two blanks.
-fn put_below(out: &mut Bytes, text: &[u8]) -> Result<(), OutOfMemory>
-    ensures { OnOk result (out.new ≡ out.old ++ lines_below text.now) }
-{
-    let mut rest = text;
-    while !rest.is_empty() {
-        let (line, after) = next_line(rest);
-        put_line_below(out, line)?;
-        rest = after;
-    }
-    Ok(())
-}
-
 // The script of the order that an outcome shows, what it sends, and the tables at its end.
 fn put_parts(
     alloc: Global,
@@ -107,9 +85,9 @@ fn put_parts(
     out.append(b"SCRIPT\n")?;
     put_script(alloc, out, &script)?;
     out.append(b"SENT\n")?;
-    put_below(out, outcome.sent.as_slice())?;
+    put_indented(out, outcome.sent.as_slice())?;
     out.append(b"TABLES\n")?;
-    put_below(out, outcome.tables.as_slice())
+    put_indented(out, outcome.tables.as_slice())
 }
 
 fn outcome_text(

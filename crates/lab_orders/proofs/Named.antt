@@ -25,20 +25,17 @@ module _ (app : Application) where
   next_names : (c : Command) (cs turned : List Command) → IsScriptOf app (c ∷ cs) → IsScriptOf app turned → IsScriptOf app (c ∷ turned)
   next_names c cs turned names behind = All-cons (IsCommandOf app.generation) c turned (All-head (IsCommandOf app.generation) c cs names) behind
 
-  rest_names : (c : Command) (cs : List Command) → IsScriptOf app (c ∷ cs) → IsScriptOf app cs
-  rest_names c cs names = All-tail (IsCommandOf app.generation) c cs names
-
   script_names : (cs : List Command) (walk : List ℕ) → IsScriptOf app cs → AreTasks app walk → IsScriptOf app (turned_script cs walk)
   unfolding turned_script
   script_names [] walk names tasks = All-nil (IsCommandOf app.generation)
-  script_names (Run turns ∷ cs) walk names tasks = run_names turns (turned_script cs) walk (λ w t. script_names cs w (rest_names (Run turns) cs names) t) tasks
-  script_names (Input pterm text ∷ cs) walk names tasks = next_names (Input pterm text) cs (turned_script cs walk) names (script_names cs walk (rest_names (Input pterm text) cs names) tasks)
-  script_names (Tick ticks ∷ cs) walk names tasks = next_names (Tick ticks) cs (turned_script cs walk) names (script_names cs walk (rest_names (Tick ticks) cs names) tasks)
-  script_names (Turn task ∷ cs) walk names tasks = next_names (Turn task) cs (turned_script cs walk) names (script_names cs walk (rest_names (Turn task) cs names) tasks)
-  script_names (Drop pterm ∷ cs) walk names tasks = next_names (Drop pterm) cs (turned_script cs walk) names (script_names cs walk (rest_names (Drop pterm) cs names) tasks)
-  script_names (Print pterm ∷ cs) walk names tasks = next_names (Print pterm) cs (turned_script cs walk) names (script_names cs walk (rest_names (Print pterm) cs names) tasks)
-  script_names (PrintLast pterm ∷ cs) walk names tasks = next_names (PrintLast pterm) cs (turned_script cs walk) names (script_names cs walk (rest_names (PrintLast pterm) cs names) tasks)
-  script_names (Restart ∷ cs) walk names tasks = next_names Restart cs (turned_script cs walk) names (script_names cs walk (rest_names Restart cs names) tasks)
+  script_names (Run turns ∷ cs) walk names tasks = run_names turns (turned_script cs) walk (λ w t. script_names cs w (All-tail (IsCommandOf app.generation) (Run turns) cs names) t) tasks
+  script_names (Input pterm text ∷ cs) walk names tasks = next_names (Input pterm text) cs (turned_script cs walk) names (script_names cs walk (All-tail (IsCommandOf app.generation) (Input pterm text) cs names) tasks)
+  script_names (Tick ticks ∷ cs) walk names tasks = next_names (Tick ticks) cs (turned_script cs walk) names (script_names cs walk (All-tail (IsCommandOf app.generation) (Tick ticks) cs names) tasks)
+  script_names (Turn task ∷ cs) walk names tasks = next_names (Turn task) cs (turned_script cs walk) names (script_names cs walk (All-tail (IsCommandOf app.generation) (Turn task) cs names) tasks)
+  script_names (Drop pterm ∷ cs) walk names tasks = next_names (Drop pterm) cs (turned_script cs walk) names (script_names cs walk (All-tail (IsCommandOf app.generation) (Drop pterm) cs names) tasks)
+  script_names (Print pterm ∷ cs) walk names tasks = next_names (Print pterm) cs (turned_script cs walk) names (script_names cs walk (All-tail (IsCommandOf app.generation) (Print pterm) cs names) tasks)
+  script_names (PrintLast pterm ∷ cs) walk names tasks = next_names (PrintLast pterm) cs (turned_script cs walk) names (script_names cs walk (All-tail (IsCommandOf app.generation) (PrintLast pterm) cs names) tasks)
+  script_names (Restart ∷ cs) walk names tasks = next_names Restart cs (turned_script cs walk) names (script_names cs walk (All-tail (IsCommandOf app.generation) Restart cs names) tasks)
 
 pub walks_are_scripts : WalksAreScripts
 walks_are_scripts app cs s walk names is = script_names app cs walk names (walk_tasks app cs s walk is)

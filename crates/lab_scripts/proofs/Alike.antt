@@ -1,5 +1,5 @@
 -- How far two scripts are alike.
-use Rattle.std.proofs.Common.{◌≡◌, ℕ, zero, suc, ◌+◌, ◌<◌, List, [], ◌∷◌, length, take, drop, refl, sym, ◌∙◌, arith}
+use Rattle.std.proofs.Common.{◌≡◌, ℕ, zero, suc, ◌+◌, ◌<◌, List, [], ◌∷◌, length, take, drop, sym, ◌∙◌}
 use Rattle.std.specs.Prelude.{All}
 use Rattle.std.proofs.lemmas.List.{take_more_same}
 use Rattle.std.proofs.lemmas.List.Elements.{All-nil, All-cons, All-head, All-tail}
@@ -19,10 +19,6 @@ alike_more one other at same (c, here, there) =
     take_more_same one other at c (slice_get_within one at c here) (slice_get_within other at c there) same (get_or_from_slice_get one at c c here ∙ sym (get_or_from_slice_get other at c c there))
 
 -- ---- parts of a script
-
-pub none_taken : (cs : List Command) → length cs < 1 → cs ≡ take 1 cs
-none_taken [] few = refl
-none_taken (c ∷ cs) few = absurd (omega (arith, few))
 
 module _ (P : Command → Type 0) where
   pub all_taken : (cs : List Command) (n : ℕ) → All P cs → All P (take n cs)

@@ -21,7 +21,7 @@ mod telling;
 mod testing;
 mod tracing;
 
-pub use parting::{Setting, tell_parting};
+pub use parting::{Setting, put_indented, tell_parting};
 pub use talking::{do_line, talk};
 pub use testing::test;
 pub use tracing::trace;

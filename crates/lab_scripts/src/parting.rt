@@ -103,8 +103,8 @@ fn next_told(
     Ok((setting, console))
 }
 
-// Puts the lines of a text, each after two blanks.
-fn put_indented(out: &mut Bytes, text: &[u8]) -> Result<(), OutOfMemory>
+/// Puts the lines of a text, each after two blanks.
+pub fn put_indented(out: &mut Bytes, text: &[u8]) -> Result<(), OutOfMemory>
     ensures { OnOk result (out.new ≡ out.old ++ indented text.now) }
 {
     let mut rest = text;
