@@ -45,7 +45,7 @@ module _ {C : Type 0} (passes : C → List Passed → C → Type 0) (prompted : 
   does_code Check p a b n h = absurd h
   does_code Trace p a b n h = subst (λ (k : ℕ). IsOneOf (0 ∷ 1 ∷ []) k) (sym h.0) refl
   does_code Talk p a b n h = subst (λ (k : ℕ). IsOneOf (0 ∷ 1 ∷ []) k) (sym h.0) refl
-  does_code (Explore most number) p a b n h = subst (λ (k : ℕ). IsOneOf (0 ∷ 1 ∷ []) k) (sym h.2) (cond_code (do_differ h.0.outcomes h.0.all))
+  does_code (Explore most number) p a b n h = subst (λ (k : ℕ). IsOneOf (0 ∷ 1 ∷ []) k) (sym h.2) (cond_code (do_differ p.script.items h.0.outcomes h.0.all))
   does_code Test p a b n h = subst (λ (k : ℕ). IsOneOf (0 ∷ 1 ∷ []) k) (sym h.1) (cond_met h.0)
 
   module _ (word : Word) (base : List ℕ) (r r' : RoomState) (a mid b : C) (status : ℕ) (sure_tells : IsTrue r.sure → IsTrue r.told) where

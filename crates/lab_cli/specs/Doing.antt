@@ -1,5 +1,5 @@
 -- What is done from a place, by the word that asks for it.
-use Rattle.std.specs.Prelude.{◌≡◌, ◌↔◌, ◌≤◌, ℕ, Bool, true, false, IsTrue, List, cond, sum_by}
+use Rattle.std.specs.Prelude.{◌≡◌, ◌++◌, ◌↔◌, ◌≤◌, ℕ, Bool, true, false, IsTrue, List, cond, sum_by}
 use Rattle.monitor_core.specs.CoreValue.{CoreValue}
 use Rattle.lab_turns.specs.Consoles.{Passed, printed}
 use Rattle.lab_turns.specs.Heard.{Heard, TellsScript}
@@ -14,6 +14,7 @@ use Rattle.lab_orders.specs.Exploring.{AreAll, AreDistinct, AreOrdered, AreOutco
 use Rattle.lab_orders.specs.Told.{AreMore}
 use Rattle.lab_cli.specs.ExploredText.{TellsExplored}
 use Rattle.lab_cli.specs.Exploring.{do_differ}
+use Rattle.lab_cli.specs.Invariants.{all_breaks_text}
 use Rattle.lab_cli.specs.Places.{app_of, start_of}
 use Rattle.lab_cli.specs.declared.reading.Place.{Place}
 use Rattle.lab_cli.specs.declared.words.Word.{Word}
@@ -51,14 +52,14 @@ pub record Explores (p : Place) (most : ℕ) (e : Explored) : Type 0 where
   pub at_most : e.orders ≤ most
   pub drawn : e.all ≡ false → e.orders ≡ most
 
--- and the text that tells of them was printed
+-- and the text that tells of them was printed, and what they break
 abbrev pub PrintsExplored : {C : Type 0} → (passes : C → List Passed → C → Type 0) → (number : ℕ) → Explored → Place → (a b : C) → Type 0
-PrintsExplored passes number e p a b = (text : List ℕ) × TellsExplored (app_of p) (start_of p) p.units p.commands.items number e text × passes a (printed text) b
+PrintsExplored passes number e p a b = (text : List ℕ) × TellsExplored (app_of p) (start_of p) p.units p.commands.items number e text × passes a (printed (text ++ all_breaks_text p.script.items 1 e.outcomes)) b
 
 -- what was done with a place, and the status
 abbrev pub Does : {C : Type 0} → (passes : C → List Passed → C → Type 0) → (prompted : Bool) → Word → Place → (a b : C) → (status : ℕ) → Type 0
 Does passes prompted Check p a b status = ⊥
 Does passes prompted Trace p a b status = (status ≡ 0) × Traces passes p a b
 Does passes prompted Talk p a b status = (status ≡ 0) × Talks passes prompted p a b
-Does passes prompted (Explore most number) p a b status = (e : Explored) × Explores p most e × (status ≡ cond (do_differ e.outcomes e.all) 1 0) × PrintsExplored passes number e p a b
+Does passes prompted (Explore most number) p a b status = (e : Explored) × Explores p most e × (status ≡ cond (do_differ p.script.items e.outcomes e.all) 1 0) × PrintsExplored passes number e p a b
 Does passes prompted Test p a b status = Tests passes p a b status

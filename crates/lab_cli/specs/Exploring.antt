@@ -1,8 +1,9 @@
 -- What an exploration answers.
-use Rattle.std.specs.Prelude.{Bool, ◌&&◌, ◌||◌, not, nat_lt, List, length}
+use Rattle.std.specs.Prelude.{ℕ, Bool, ◌&&◌, ◌||◌, not, nat_lt, List, length}
 use Rattle.std.specs.List.{list_any}
 use Rattle.lab_orders.specs.declared.explored.Outcome.{Outcome}
 use Rattle.lab_orders.specs.Exploring.{tables_are_serial}
+use Rattle.lab_cli.specs.Invariants.{is_broken}
 
 -- at its end a service waits, and nobody can go on
 abbrev pub stands_still : Outcome → Bool
@@ -24,6 +25,6 @@ is_serial outcome = nat_lt 0 outcome.serial
 abbrev pub is_not_serial : List Outcome → Outcome → (all : Bool) → Bool
 is_not_serial outcomes outcome all = all && is_unhindered outcome && list_any is_serial outcomes && not (tables_are_serial outcomes outcome)
 
--- there are two outcomes, or one is a standstill, or a RUN of one is spent, or one is not serial
-abbrev pub do_differ : List Outcome → (all : Bool) → Bool
-do_differ outcomes all = nat_lt 1 (length outcomes) || list_any stands_still outcomes || list_any is_spent outcomes || list_any (λ (outcome : Outcome). is_not_serial outcomes outcome all) outcomes
+-- there are two outcomes, or one is a standstill, or a RUN of one is spent, or one is not serial, or one breaks a line of the script
+abbrev pub do_differ : (script : List ℕ) → List Outcome → (all : Bool) → Bool
+do_differ script outcomes all = nat_lt 1 (length outcomes) || list_any stands_still outcomes || list_any is_spent outcomes || list_any (λ (outcome : Outcome). is_not_serial outcomes outcome all) outcomes || list_any (is_broken script) outcomes

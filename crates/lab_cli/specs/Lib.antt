@@ -4,6 +4,7 @@ pub mod Checking
 pub mod Doing
 pub mod ExploredText
 pub mod Exploring
+pub mod Invariants
 pub mod Places
 pub mod Stops
 pub mod Words

@@ -1,13 +1,14 @@
 //! `explore`: the distinct outcomes of the orders of the tasks.
-ghost use Rattle.std.specs.{Prelude.{◌≡◌, ◌≤◌, ◌^◌, ℕ, List, [], true, false, cond, IfOk, IfSome, IsTrue, OnOk, sum_by}, List.{list_any}};
+ghost use Rattle.std.specs.{Prelude.{◌≡◌, ◌≤◌, ◌^◌, ◌++◌, ℕ, List, [], true, false, cond, IfOk, IfSome, IsTrue, OnOk, sum_by}, List.{list_any}};
 ghost use Rattle.application_types.specs.Fitted.{IsFit};
 ghost use Rattle.laws_of_runs.specs.Applied.{applied};
 ghost use Rattle.laws_of_states.specs.{Keeping.{IsScriptOf}, Suits.{Suits}};
 ghost use Rattle.abstract_monitor.specs.Commands.{started};
 ghost use Rattle.lab_orders.specs.{Exploring.{AreAll, AreDistinct, AreOrdered, AreOutcomes, AreToldSerial, IsTried}, Told.{AreMore}, Walking.{tries_of}};
 ghost use Rattle.lab_turns.specs.Consoles.{printed};
-ghost use Rattle.lab_cli.specs.{ExploredText.{TellsExplored}, Exploring.{do_differ, is_not_serial, is_spent, stands_still}, Places.{CanStart}};
+ghost use Rattle.lab_cli.specs.{ExploredText.{TellsExplored}, Exploring.{do_differ, is_not_serial, is_spent, stands_still}, Invariants.{all_breaks_text, is_broken}, Places.{CanStart}};
 
+use crate::invariants::{breaks_told, is_broken};
 use crate::printing::print_explored;
 use crate::reading::Place;
 use crate::serial::is_not_serial;
@@ -29,7 +30,8 @@ const MOST_TRIES: u64 = 100_000_000_000_000;
 /// How many tasks there are at most.
 const MOST_TASKS: u64 = 65_535;
 
-/// Orders differ, or one comes to a standstill, or a RUN of one is spent, or one is not serial.
+/// Orders differ, or one comes to a standstill, or a RUN of one is spent, or one is not serial, or one breaks a line of the
+/// script.
 const DIFFER: Status = Status { code: 1 };
 
 // Tells how many orders are tried at most, beside what is printed.
@@ -72,19 +74,26 @@ fn one_is_not_serial(outcomes: &[Outcome], all: bool) -> bool
         .any(|outcome| is_not_serial(outcomes, outcome, all))
 }
 
-fn do_differ(outcomes: &[Outcome], all: bool) -> bool
-    ensures { result ≡ do_differ outcomes.now all }
+fn one_is_broken(script: &[u8], outcomes: &[Outcome]) -> bool
+    ensures { result ≡ list_any (is_broken script.now) outcomes.now }
+{
+    outcomes.iter().any(|outcome| is_broken(script, outcome))
+}
+
+fn do_differ(script: &[u8], outcomes: &[Outcome], all: bool) -> bool
+    ensures { result ≡ do_differ script.now outcomes.now all }
 {
     outcomes.len() > 1
         || one_stands_still(outcomes)
         || one_is_spent(outcomes)
         || one_is_not_serial(outcomes, all)
+        || one_is_broken(script, outcomes)
 }
 
-fn status_of(outcomes: &[Outcome], all: bool) -> Status
-    ensures { result.code ≡ cond (do_differ outcomes.now all) 1 0 }
+fn status_of(script: &[u8], outcomes: &[Outcome], all: bool) -> Status
+    ensures { result.code ≡ cond (do_differ script.now outcomes.now all) 1 0 }
 {
-    if do_differ(outcomes, all) {
+    if do_differ(script, outcomes, all) {
         DIFFER
     } else {
         Status::DONE
@@ -175,8 +184,8 @@ fn explore_script<C: Console>(
 /// their distinct outcomes: of each how many orders come to it, the script of the shortest of them, what it sends, the
 /// tables at its end, and of each but the first where its script parts from that of the first. The status is 1 where there
 /// are two outcomes, where nobody can go on at the end of an order while a service waits, where a RUN of one ends while a
-/// task's turn has an effect, and where all orders were tried and none with each transaction in one go leaves the tables of
-/// an outcome.
+/// task's turn has an effect, where all orders were tried and none with each transaction in one go leaves the tables of an
+/// outcome, and where the tables of an outcome break a line of the script, which is told last.
 pub fn explore_orders<C: Console>(
     alloc: Global,
     console: &mut C,
@@ -195,14 +204,14 @@ pub fn explore_orders<C: Console>(
     ensures counted { IfOk result (λ r. sum_by (λ o. o.orders) r.1.outcomes ≡ r.1.orders) }
     ensures most { IfOk result (λ r. r.1.orders ≤ most) }
     ensures drawn { IfOk result (λ r. r.1.all ≡ false → r.1.orders ≡ most) }
-    ensures printed { IfOk result (λ r. (text : List ℕ) × TellsExplored (applied place.application.generation place.application.units) (started (applied place.application.generation place.application.units) place.tables) place.units place.commands.items number r.1 text × C.passes console.old (printed text) console.new) }
-    ensures status { IfOk result (λ r. r.0.code ≡ cond (do_differ r.1.outcomes r.1.all) 1 0) }
+    ensures printed { IfOk result (λ r. (text : List ℕ) × TellsExplored (applied place.application.generation place.application.units) (started (applied place.application.generation place.application.units) place.tables) place.units place.commands.items number r.1 text × C.passes console.old (printed (text ++ all_breaks_text place.script.items 1 r.1.outcomes)) console.new) }
+    ensures status { IfOk result (λ r. r.0.code ≡ cond (do_differ place.script.items r.1.outcomes r.1.all) 1 0) }
 {
     let Place {
         application,
         tables,
         units: source,
-        script: _,
+        script,
         commands,
     } = place;
     let Application { generation, units } = application;
@@ -212,6 +221,9 @@ pub fn explore_orders<C: Console>(
         source,
     };
     let explored = explore_script(alloc, console, setting, &tables, &commands, most, number)?;
-    let status = status_of(explored.outcomes.as_slice(), explored.all);
+    let outcomes = explored.outcomes.as_slice();
+    let told = breaks_told(alloc, &script, outcomes)?;
+    console.put(told.as_slice())?;
+    let status = status_of(&script, outcomes, explored.all);
     Ok((status, explored))
 }

@@ -16,6 +16,7 @@
 mod checking;
 mod exploring;
 mod files;
+mod invariants;
 mod printing;
 mod reading;
 mod serial;
