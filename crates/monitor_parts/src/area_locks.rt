@@ -11,7 +11,7 @@ ghost use Rattle.monitor_parts.specs.{Asked.{no_locks, asked, locks_after, holde
 
 use abstract_monitor::LockAnswer;
 use kd_base::OutOfMemory;
-use kd_base::sorted_pairs::OrderedMap;
+use kd_base::sorted_pairs::{OrderedMap, Pairs};
 use kdcs_types::{Area, ServiceId};
 use monitor_rules::refused;
 use std::alloc::Global;
@@ -79,6 +79,13 @@ impl LockTable {
         ensures { option_copied result ≡ find id_cmp who self.now.waits }
     {
         self.waits.get(&who)
+    }
+
+    /// All services that wait, in ascending order, each with the area and the clock of its first request. It takes no memory.
+    pub fn waits(&self) -> Pairs<'_, ServiceId, (Area, u64)>
+        ensures { result ≡ self.now.waits }
+    {
+        self.waits.iter()
     }
 
     /// How many services wait.

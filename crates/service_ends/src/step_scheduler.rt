@@ -13,5 +13,6 @@ mod places;
 mod ready;
 mod scheduler;
 
+pub use kinds::Classed;
 pub use limits::class_of;
 pub use scheduler::Scheduler;

@@ -9,7 +9,7 @@ use crate::session_table::session::Session;
 use crate::session_table::split::Split;
 use abstract_monitor::{ServiceState, Use};
 use application_types::generation::Generation;
-use kd_base::sorted_pairs::OrderedMap;
+use kd_base::sorted_pairs::{OrderedMap, Pairs};
 use kd_base::{Bytes, Name, OutOfMemory};
 use std::alloc::Global;
 use std::marker::Model;
@@ -127,6 +127,13 @@ impl Sessions {
         let lterm = lterm_of(generation, pterm);
         let caller = Caller { user, lterm };
         use_signed(self.alloc, generation, caller, text, &pieces, state)
+    }
+
+    /// All sessions, each with its PTERM, in ascending order of these. It takes no memory.
+    pub fn iter(&self) -> Pairs<'_, Name, Session>
+        ensures { result ≡ self.now }
+    {
+        self.by_pterm.iter()
     }
 
     /// A message becomes the last one of the session at this PTERM. Nothing changes where nobody is signed on there. It

@@ -6,7 +6,7 @@ ghost use Rattle.service_ends.specs.Kinds.{kind_of};
 use kdcs_types::ServiceId;
 
 /// A service with the class of its current TAC: 1 to 16, and 0 for none.
-pub(crate) type Classed = (ServiceId, u8);
+pub type Classed = (ServiceId, u8);
 
 /// All that the limits ask of a service. Services of one kind are allowed together.
 #[derive(Clone, Copy, PartialEq, Eq, PartialOrd, Ord)]

@@ -8,7 +8,7 @@ use crate::step_scheduler::kinds::Classed;
 use crate::step_scheduler::limits::TaskLimits;
 use crate::step_scheduler::marks::Marks;
 use kd_base::OutOfMemory;
-use kd_base::sorted_pairs::OrderedMap;
+use kd_base::sorted_pairs::{OrderedMap, Pairs};
 use kdcs_types::ServiceId;
 use std::alloc::Global;
 use std::marker::Model;
@@ -54,6 +54,13 @@ impl ReadyQueue {
             marks: Marks::new(alloc),
             alloc,
         }
+    }
+
+    /// The numbers with the services, in order.
+    pub(crate) fn iter(&self) -> Pairs<'_, u64, Classed>
+        ensures { result ≡ self.now }
+    {
+        self.arrivals.iter()
     }
 
     fn len(&self) -> usize

@@ -1,5 +1,5 @@
 //! The ready list and the tasks.
-ghost use Rattle.std.specs.Prelude.{◌≡◌, ◌<◌, ◌≤◌, ◌+◌, ℕ, length, IsTrue, is_some, IfOk, OnOk, OnErr, None};
+ghost use Rattle.std.specs.{Prelude.{◌≡◌, ◌<◌, ◌≤◌, ◌+◌, ℕ, length, IsTrue, is_some, IfOk, OnOk, OnErr, None}, Map.{values_of}};
 ghost use Rattle.service_ends.specs.Schedule.{all_free, is_ready, is_running, released, with_ready, without_ready, IsTask, place_of, service_in, with_class, with_place, took_service, took_job};
 ghost use Rattle.service_ends.specs.Schedule.{pick_queued, picked};
 
@@ -10,6 +10,7 @@ use crate::step_scheduler::ready::ReadyQueue;
 use abstract_monitor::Work;
 use application_types::generation::Generation;
 use kd_base::OutOfMemory;
+use kd_base::sorted_pairs::Pairs;
 use kdcs_types::ServiceId;
 use open_transaction::async_queue::{Jobs, QueuedJob};
 use std::alloc::Global;
@@ -65,6 +66,13 @@ impl Scheduler {
         ensures { result ≡ is_running id self.now }
     {
         self.ready.contains(&id) || self.places.holds(&id)
+    }
+
+    /// The services of the ready list, front first, each with the number of its arrival and its class. It takes no memory.
+    pub fn waiting(&self) -> Pairs<'_, u64, Classed>
+        ensures { values_of result ≡ self.now.ready }
+    {
+        self.ready.iter()
     }
 
     /// Takes a service out of the ready list. It answers false exactly where the service is not in the list. A task
