@@ -1,9 +1,13 @@
+pub mod Ahead
+pub mod AheadLaws
 pub mod Frames
 pub mod FramesLaws
+pub mod LinesLaws
 pub mod Lists
 pub mod ListsLaws
 pub mod Orders
 pub mod Outcomes
 pub mod Serial
 pub mod Signs
+pub mod StepsLaws
 pub mod Walks
