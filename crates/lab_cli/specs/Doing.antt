@@ -39,13 +39,14 @@ sent_at p = sent_of (app_of p) (start_of p) p.commands.items
 abbrev pub Tests : {C : Type 0} → (passes : C → List Passed → C → Type 0) → Place → (a b : C) → (status : ℕ) → Type 0
 Tests passes p a b status = (met : Bool) × (status ≡ cond met 0 1) × (IsTrue met ↔ IsMet (expected_at p) (sent_at p)) × TellsTest passes (expected_at p) (sent_at p) met a b
 
--- `explore`: the outcomes of the orders of the script, all of them or so many
+-- `explore`: the outcomes of the orders of the script: of all, each tried or stood for, or of so many
 pub record Explores (p : Place) (most : ℕ) (e : Explored) : Type 0 where
   pub outcomes : AreOutcomes (app_of p) p.tables p.commands.items e.outcomes
   pub orders : AreOrdered (app_of p) p.tables p.commands.items e.outcomes
   pub all : e.all ≡ true → AreAll (app_of p) p.tables p.commands.items e.outcomes
   pub tried : IsTried (app_of p) p.tables p.commands.items e
-  pub more : e.all ≡ false → AreMore (app_of p) p.commands.items (start_of p) most
+  pub each : e.each ≡ true → e.all ≡ true
+  pub more : e.each ≡ false → AreMore (app_of p) p.commands.items (start_of p) most
   pub serial : e.all ≡ true → AreToldSerial (app_of p) p.tables p.commands.items e.outcomes
   pub distinct : AreDistinct e.outcomes
   pub counted : sum_by (λ (o : Outcome). o.orders) e.outcomes ≡ e.orders

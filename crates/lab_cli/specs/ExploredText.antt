@@ -14,14 +14,19 @@ use Rattle.lab_cli.specs.Exploring.{is_not_serial}
 
 -- ---- the orders
 
--- these are all orders, or they were drawn from this number
-abbrev pub chosen_text : (all : Bool) → (number : ℕ) → List ℕ
-chosen_text true number = codes " ALL"
-chosen_text false number = codes " DRAWN FROM " ++ decimal number
+-- where not each order was tried: those that were tried stand for all, or they were drawn from this number
+abbrev pub some_text : (all : Bool) → (number : ℕ) → List ℕ
+some_text true number = codes " FOR ALL"
+some_text false number = codes " DRAWN FROM " ++ decimal number
+
+-- these are all orders, or some of them
+abbrev pub chosen_text : (each all : Bool) → (number : ℕ) → List ℕ
+chosen_text true all number = codes " ALL"
+chosen_text false all number = some_text all number
 
 -- how many orders were tried, which, and how many outcomes they have
 abbrev pub orders_line : (number : ℕ) → Explored → List ℕ
-orders_line number e = line (codes "ORDERS " ++ decimal e.orders ++ chosen_text e.all number ++ codes " OUTCOMES " ++ decimal (length e.outcomes))
+orders_line number e = line (codes "ORDERS " ++ decimal e.orders ++ chosen_text e.each e.all number ++ codes " OUTCOMES " ++ decimal (length e.outcomes))
 
 -- ---- an outcome
 

@@ -150,7 +150,8 @@ fn explore_script<C: Console>(
     ensures orders { IfOk result (λ e. AreOrdered (applied setting.generation setting.units) tables.now commands.now e.outcomes) }
     ensures all { IfOk result (λ e. e.all ≡ true → AreAll (applied setting.generation setting.units) tables.now commands.now e.outcomes) }
     ensures tried { IfOk result (λ e. IsTried (applied setting.generation setting.units) tables.now commands.now e) }
-    ensures more { IfOk result (λ e. e.all ≡ false → AreMore (applied setting.generation setting.units) commands.now (started (applied setting.generation setting.units) tables.now) most) }
+    ensures each { IfOk result (λ e. e.each ≡ true → e.all ≡ true) }
+    ensures more { IfOk result (λ e. e.each ≡ false → AreMore (applied setting.generation setting.units) commands.now (started (applied setting.generation setting.units) tables.now) most) }
     ensures serial { IfOk result (λ e. e.all ≡ true → AreToldSerial (applied setting.generation setting.units) tables.now commands.now e.outcomes) }
     ensures distinct { IfOk result (λ e. AreDistinct e.outcomes) }
     ensures counted { IfOk result (λ e. sum_by (λ o. o.orders) e.outcomes ≡ e.orders) }
@@ -180,11 +181,11 @@ fn explore_script<C: Console>(
     Ok(explored)
 }
 
-/// Tries the orders of the tasks: all, where there are at most `most`, and else as many, drawn from this number. It prints
-/// their distinct outcomes: of each how many orders come to it, the script of the shortest of them, what it sends, the
+/// Tries the orders of the tasks: all, where there are at most `most`; else at most as many that stand for all, if they are
+/// found; and else as many, drawn from this number. It prints their distinct outcomes: of each how many orders come to it, the script of the shortest of them, what it sends, the
 /// tables at its end, and of each but the first where its script parts from that of the first. The status is 1 where there
 /// are two outcomes, where nobody can go on at the end of an order while a service waits, where a RUN of one ends while a
-/// task's turn has an effect, where all orders were tried and none with each transaction in one go leaves the tables of an
+/// task's turn has an effect, where all orders are known and none with each transaction in one go leaves the tables of an
 /// outcome, and where the tables of an outcome break a line of the script, which is told last.
 pub fn explore_orders<C: Console>(
     alloc: Global,
@@ -198,7 +199,8 @@ pub fn explore_orders<C: Console>(
     ensures orders { IfOk result (λ r. AreOrdered (applied place.application.generation place.application.units) place.tables place.commands.items r.1.outcomes) }
     ensures all { IfOk result (λ r. r.1.all ≡ true → AreAll (applied place.application.generation place.application.units) place.tables place.commands.items r.1.outcomes) }
     ensures tried { IfOk result (λ r. IsTried (applied place.application.generation place.application.units) place.tables place.commands.items r.1) }
-    ensures more { IfOk result (λ r. r.1.all ≡ false → AreMore (applied place.application.generation place.application.units) place.commands.items (started (applied place.application.generation place.application.units) place.tables) most) }
+    ensures each { IfOk result (λ r. r.1.each ≡ true → r.1.all ≡ true) }
+    ensures more { IfOk result (λ r. r.1.each ≡ false → AreMore (applied place.application.generation place.application.units) place.commands.items (started (applied place.application.generation place.application.units) place.tables) most) }
     ensures serial { IfOk result (λ r. r.1.all ≡ true → AreToldSerial (applied place.application.generation place.application.units) place.tables place.commands.items r.1.outcomes) }
     ensures distinct { IfOk result (λ r. AreDistinct r.1.outcomes) }
     ensures counted { IfOk result (λ r. sum_by (λ o. o.orders) r.1.outcomes ≡ r.1.orders) }

@@ -5,7 +5,7 @@ ghost use Rattle.abstract_monitor.specs.Commands.{started};
 ghost use Rattle.laws_of_runs.specs.Applied.{applied};
 ghost use Rattle.laws_of_states.specs.Suits.{Suits};
 ghost use Rattle.lab_turns.specs.Consoles.{printed};
-ghost use Rattle.lab_cli.specs.{ExploredText.{AreScripts, TellsExplored, TellsOutcomes, chosen_text, command_below, orders_line, outcome_line, outcome_text, parts_text, sign_text, signs_text}, Exploring.{is_not_serial}};
+ghost use Rattle.lab_cli.specs.{ExploredText.{AreScripts, TellsExplored, TellsOutcomes, chosen_text, command_below, orders_line, outcome_line, outcome_text, parts_text, sign_text, signs_text, some_text}, Exploring.{is_not_serial}};
 
 use crate::serial::is_not_serial;
 use abstract_monitor::Command;
@@ -112,14 +112,31 @@ fn put_drawn(alloc: Global, out: &mut Bytes, number: u64) -> Result<(), OutOfMem
     put_number(alloc, out, number)
 }
 
-// Which orders were tried.
-fn put_chosen(alloc: Global, out: &mut Bytes, all: bool, number: u64) -> Result<(), OutOfMemory>
-    ensures { OnOk result (out.new ≡ out.old ++ chosen_text all number) }
+// Which orders were tried, where these are not all.
+fn put_some(alloc: Global, out: &mut Bytes, all: bool, number: u64) -> Result<(), OutOfMemory>
+    ensures { OnOk result (out.new ≡ out.old ++ some_text all number) }
 {
     if all {
-        out.append(b" ALL")
+        out.append(b" FOR ALL")
     } else {
         put_drawn(alloc, out, number)
+    }
+}
+
+// Which orders were tried.
+fn put_chosen(
+    alloc: Global,
+    out: &mut Bytes,
+    each: bool,
+    all: bool,
+    number: u64,
+) -> Result<(), OutOfMemory>
+    ensures { OnOk result (out.new ≡ out.old ++ chosen_text each all number) }
+{
+    if each {
+        out.append(b" ALL")
+    } else {
+        put_some(alloc, out, all, number)
     }
 }
 
@@ -129,7 +146,7 @@ fn orders_line(alloc: Global, explored: &Explored, number: u64) -> Result<Bytes,
 {
     let mut out = Bytes::from_slice(alloc, b"ORDERS ")?;
     put_number(alloc, &mut out, explored.orders)?;
-    put_chosen(alloc, &mut out, explored.all, number)?;
+    put_chosen(alloc, &mut out, explored.each, explored.all, number)?;
     out.append(b" OUTCOMES ")?;
     put_number(alloc, &mut out, explored.outcomes.len() as u64)?;
     out.push(b'\n')?;

@@ -25,6 +25,7 @@ use Rattle.abstract_monitor.specs.Trace.{bytes_of, tables_after}
 use Rattle.abstract_monitor.specs.Turns.{Turned, turn_of}
 use Rattle.laws_of_states.specs.DurableLaws.{durable_again}
 use Rattle.laws_of_states.specs.Keeping.{HasFacts, IsScriptOf}
+use Rattle.laws_of_runs.specs.Replays.{AllReplay}
 use Rattle.laws_of_states.specs.Steps.{CommitsOnce, StepsMakeTheirTables}
 use Rattle.laws_of_states.specs.TablesStayLaws.{started_tables}
 use Rattle.monitor_core.specs.Commanding.{Comes, IsCoreCommand}
@@ -129,12 +130,12 @@ module _ (before after : Signs) (now : State) (k04 : after.k04 ≡ (before.k04 |
 
 -- ---- one command
 
-pub did_command : (make : StepsMakeTheirTables) (c d : CoreValue) (command : Command) (before after : Path) → IsBeside c before → HasFacts d.application d.state → d.application ≡ c.application
+pub did_command : (make : StepsMakeTheirTables) (c d : CoreValue) (command : Command) (before after : Path) → IsBeside c before → HasFacts d.application d.state → AllReplay d.application d.state → d.application ≡ c.application
     → CommitsOnce c.application c.state (command_of c.application c.state command) → (acts : List Act) → Comes d.state acts (command_of c.application c.state command)
     → after.turns ≡ before.turns → after.sent ≡ before.sent ++ bytes_of acts → after.durable ≡ tables_after before.durable acts → IsSeen before.signs (command_of c.application c.state command) after.signs → after.serial ≡ (before.serial && is_one_at_a_time d.state) → DidCommand c before command d after
-did_command make c d command before after beside facts same once acts comes turns sent durable_is seen serial = record {
+did_command make c d command before after beside facts replays same once acts comes turns sent durable_is seen serial = record {
   application = same;
-  beside = record { facts = facts; durable = durable_after make c d (command_of c.application c.state command) beside.facts facts same comes.state once before.durable after.durable acts beside.durable comes.acts durable_is };
+  beside = record { facts = facts; replays = replays; durable = durable_after make c d (command_of c.application c.state command) beside.facts facts same comes.state once before.durable after.durable acts beside.durable comes.acts durable_is };
   state = comes.state;
   turns = turns;
   sent = sent ∙ ap (λ (l : List Act). before.sent ++ bytes_of l) comes.acts;
@@ -158,12 +159,13 @@ restart_bytes : (app : Application) (s : State) → bytes_of (command_of app s R
 unfolding command_of bytes_of
 restart_bytes app s = refl
 
-pub did_restart : (c d : CoreValue) (before after : Path) (sent : List ℕ) → IsBeside c before → d.application ≡ c.application → d.state ≡ started d.application before.durable → HasFacts d.application d.state
+pub did_restart : (c d : CoreValue) (before after : Path) (sent : List ℕ) → IsBeside c before → d.application ≡ c.application → d.state ≡ started d.application before.durable → HasFacts d.application d.state → AllReplay d.application d.state
     → sent ≡ 82 ∷ 69 ∷ 83 ∷ 84 ∷ 65 ∷ 82 ∷ 84 ∷ 10 ∷ [] → after.sent ≡ before.sent ++ sent → after.turns ≡ before.turns → after.durable ≡ before.durable → after.signs.k04 ≡ (before.signs.k04 || is_refused_in is_k04 d.state) → after.signs.k05 ≡ (before.signs.k05 || is_refused_in is_k05 d.state) → after.signs.dump ≡ (before.signs.dump || false) → after.serial ≡ (before.serial && is_one_at_a_time d.state) → DidCommand c before Restart d after
-did_restart c d before after sent beside app state facts line said turns durable_is k04 k05 dump serial = record {
+did_restart c d before after sent beside app state facts replays line said turns durable_is k04 k05 dump serial = record {
   application = app;
   beside = record {
     facts = facts;
+    replays = replays;
     durable =
         durable_is
         ∙ beside.durable

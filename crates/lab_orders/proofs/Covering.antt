@@ -1,6 +1,6 @@
 -- The walks that were tried, and those that are still to be walked.
 use Rattle.std.proofs.Common.{◌≡◌, ℕ, ◌+◌, ◌<◌, List, [], ◌∷◌, inl, inr, refl, sym, ap, subst, ◌∙◌, arith, length}
-use Rattle.std.specs.Prelude.{◌⊎◌, true}
+use Rattle.std.specs.Prelude.{◌⊎◌, true, Some}
 use Rattle.std.proofs.lemmas.Bool.{true≢false}
 use Rattle.kdcs_types.specs.Tables.{TableRows}
 use Rattle.abstract_monitor.specs.declared.command.Command.{Command}
@@ -11,7 +11,7 @@ use Rattle.lab_orders.specs.declared.explored.Explored.{Explored}
 use Rattle.lab_orders.specs.declared.explored.Outcome.{Outcome}
 use Rattle.lab_walks.specs.declared.frame.Frame.{Frame}
 use Rattle.lab_orders.specs.declared.performed.Found.{Found}
-use Rattle.lab_orders.specs.Exploring.{AreAll, AreOrdered, AreOutcomes, IsAdded, IsDrawn, IsMet, IsOfAllWalks, IsShown, IsTally, IsTried}
+use Rattle.lab_orders.specs.Exploring.{AllOrMore, AreAll, AreOrdered, AreOutcomes, IsAdded, IsDrawn, IsMet, IsOfAllWalks, IsShown, IsTally, IsTried}
 use Rattle.lab_orders.specs.Finding.{Descended, IsFound}
 use Rattle.lab_walks.specs.Frames.{Advanced, IsAhead, IsLeft}
 use Rattle.lab_orders.specs.Laws.{OrdersAreWalked, Starts, WalksAreOrders}
@@ -19,9 +19,11 @@ use Rattle.lab_walks.specs.Lists.{AreOnce}
 use Rattle.lab_walks.specs.Orders.{worked}
 use Rattle.lab_walks.specs.Outcomes.{Result}
 use Rattle.lab_walks.specs.Frames.{IsWay}
+use Rattle.lab_orders.specs.Standing.{IsAsGood}
 use Rattle.lab_orders.specs.Told.{AreMore}
 use Rattle.lab_walks.specs.Walks.{IsWalk}
 use Rattle.lab_orders.proofs.Exploring.{tally_more, tally_start}
+use Rattle.lab_orders.proofs.Following.{stood_itself}
 use Rattle.lab_orders.proofs.Searching.{ahead_end, left_ahead, turns_ahead, turns_not_left, way_none, way_open}
 
 -- each outcome is that of an order
@@ -100,16 +102,29 @@ module _ (app : Application) (t : TableRows) (cs : List Command) where
         fresh = λ w there ahead. not_left w there (advanced.only w ahead);
       }
 
-      pub tried_all : ((w : List ℕ) → IsLeft deeper w → ⊥) → (most : ℕ) → tried < most → (e : Explored) → e.outcomes ≡ new → e.orders ≡ tried + 1 → e.all ≡ true → IsOfAllWalks app t cs most e
-      tried_all none most less e outcomes orders is_all = record {
-        walks = walks;
-        tally = subst (IsTally app t cs walks) (sym outcomes) tally;
-        number = omega (arith, all.number, orders);
-        once = found_once;
-        each_walk = λ w walk. elim (in_or_left w walk) [ inl there ↦ there | inr left ↦ absurd (none w left) ];
-        all = is_all;
-        most_orders = omega (arith, orders, less);
-      }
+      pub tried_all : ((w : List ℕ) → IsLeft deeper w → ⊥) → (most : ℕ) → tried < most → (e : Explored) → e.outcomes ≡ new → e.orders ≡ tried + 1 → e.all ≡ true → e.each ≡ true → AllOrMore app t cs most (Some e)
+      tried_all none most less e outcomes orders is_all is_each = (
+        record {
+          walks = walks;
+          tally = subst (IsTally app t cs walks) (sym outcomes) tally;
+          number = omega (arith, all.number, orders);
+          stood = λ w walk. stood_itself app cs (started app t) walks w (each_walk w walk) walk;
+          once = λ each. found_once;
+          whole = λ each. each_walk;
+          all = is_all;
+          most_orders = omega (arith, orders, less);
+        },
+        λ not. absurd (true≢false (sym is_each ∙ not)),
+      )
+        where
+          each_walk : (w : List ℕ) → IsWalk app cs (started app t) w → IsIn w walks
+          each_walk w walk = elim (in_or_left w walk) [ inl there ↦ there | inr left ↦ absurd (none w left) ]
+
+  -- a walk comes to what one that is as good comes to
+  pub shown_so : (outcomes : List Outcome) (w v : List ℕ) → IsAsGood app cs (started app t) v w → IsShown app t cs outcomes v → IsShown app t cs outcomes w
+  shown_so [] w v good h = h
+  shown_so (x ∷ xs) w v good (inl here) = inl (here ∙ good.stands.result)
+  shown_so (x ∷ xs) w v good (inr later) = inr (shown_so xs w v good later)
 
   -- each order is shown where each walk is
   pub orders_shown : OrdersAreWalked → Starts app t cs → (outcomes : List Outcome) → ((w : List ℕ) → IsWalk app cs (started app t) w → IsShown app t cs outcomes w) → AreAll app t cs outcomes
@@ -130,9 +145,14 @@ module _ (app : Application) (t : TableRows) (cs : List Command) where
     number = whole.number;
     shown = whole.tally.shown;
     told = whole.tally.told;
-    once = λ all. whole.once;
-    whole = λ all. whole.each_walk;
+    stood = λ all. whole.stood;
+    once = whole.once;
+    whole = whole.whole;
   }
+
+  -- and each walk is shown
+  pub whole_shown : (most : ℕ) (e : Explored) → IsOfAllWalks app t cs most e → (w : List ℕ) → IsWalk app cs (started app t) w → IsShown app t cs e.outcomes w
+  whole_shown most e whole w walk = let stood = whole.stood w walk in shown_so e.outcomes w stood.other stood.good (whole.tally.shown stood.other stood.among)
 
   pub tried_drawn : (most : ℕ) (e : Explored) → IsDrawn app t cs most e → IsTried app t cs e
   tried_drawn most e drawn = record {
@@ -141,8 +161,9 @@ module _ (app : Application) (t : TableRows) (cs : List Command) where
     number = drawn.number;
     shown = drawn.tally.shown;
     told = drawn.tally.told;
-    once = λ all. absurd (true≢false (sym all ∙ drawn.all));
-    whole = λ all. absurd (true≢false (sym all ∙ drawn.all));
+    stood = λ all. absurd (true≢false (sym all ∙ drawn.all));
+    once = λ each. absurd (true≢false (sym each ∙ drawn.each));
+    whole = λ each. absurd (true≢false (sym each ∙ drawn.each));
   }
 
 -- ---- drawn walks

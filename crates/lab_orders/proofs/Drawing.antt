@@ -188,7 +188,7 @@ module _ (c d : CoreValue) (before now : Path) (turns made effects : ℕ) (resti
     ended : CanBe d.application (InRun (turns - (effects + 1)) drawing.room d.state) 0 → (later : Path) → later.turns ≡ now.turns ++ 0 ∷ [] → later.durable ≡ now.durable → Drew c before (Run turns ∷ []) d later
     ended can later turns_are durable_is = record {
       application = drawing.application;
-      beside = record { facts = drawing.beside.facts; durable = durable_is ∙ drawing.beside.durable };
+      beside = record { facts = drawing.beside.facts; replays = drawing.beside.replays; durable = durable_is ∙ drawing.beside.durable };
       came = λ q cs same r.
           subst (CameToCommands q d.application d.state cs) (sym turns_are)
           (came_rest q d.application (turns - (effects + 1)) drawing.room cs d.state now.turns (same ∙ sym drawing.application) (run_here q cs same (came_into q c.application turns cs c.state before.turns r)) can);
@@ -207,7 +207,7 @@ module _ (c d : CoreValue) (before now : Path) (turns made effects : ℕ) (resti
         → (tasks : ℕ) → tasks ≡ c.application.generation.limits.tasks → (others : List Bool) → others ≡ replicate tasks false → Drawing c next before later turns (made + 1) (effects + 1) others
     drawing_effect task awake next did tried one later turns_are durable_is tasks tasks_are others none = record {
       application = tried.application ∙ drawing.application;
-      beside = record { facts = tried.facts; durable = durable_is };
+      beside = record { facts = tried.facts; replays = tried.replays; durable = durable_is };
       steps = omega (arith, one, drawing.steps);
       few = omega (arith, drawing.few);
       tasks = ap length none ∙ length-replicate tasks false ∙ tasks_are ∙ ap (λ (a : Application). a.generation.limits.tasks) (sym (tried.application ∙ drawing.application));
@@ -229,7 +229,7 @@ module _ (c d : CoreValue) (before now : Path) (turns made effects : ℕ) (resti
   pub drawing_none : (task : ℕ) → IsAwake resting task → (next : CoreValue) → Tried d task next None → next.steps ≡ d.steps + 1 → (others : List Bool) → others ≡ slice_set resting (task - 1) true → Drawing c next before now turns (made + 1) effects others
   drawing_none task awake next tried one others are = record {
     application = tried.application ∙ drawing.application;
-    beside = record { facts = tried.facts; durable = drawing.beside.durable ∙ (λ i. durable (sym tried.application i).generation (sym tried.exact.1 i).tables) };
+    beside = record { facts = tried.facts; replays = tried.replays; durable = drawing.beside.durable ∙ (λ i. durable (sym tried.application i).generation (sym tried.exact.1 i).tables) };
     steps = omega (arith, one, drawing.steps);
     few = omega (arith, drawing.few);
     tasks = ap length are ∙ length_set resting (task - 1) true ∙ drawing.tasks ∙ ap (λ (a : Application). a.generation.limits.tasks) (sym tried.application);

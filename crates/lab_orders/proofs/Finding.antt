@@ -9,6 +9,7 @@ use Rattle.abstract_monitor.specs.Commands.{started}
 use Rattle.abstract_monitor.specs.State.{Application, State}
 use Rattle.abstract_monitor.specs.Endings.{durable}
 use Rattle.laws_of_runs.specs.Applied.{applied}
+use Rattle.laws_of_runs.specs.Replays.{AllReplay}
 use Rattle.laws_of_states.specs.Keeping.{HasFacts, IsScriptOf}
 use Rattle.laws_of_states.specs.Suits.{Suits}
 use Rattle.laws_of_states.specs.TablesStayLaws.{started_tables}
@@ -49,21 +50,22 @@ module _ (app : Application) (t : TableRows) (cs : List Command) (g : Generated)
 -- ---- a start
 
 -- a core that started from tables that suit is beside them
-start_beside : (c : CoreValue) (p : Path) (t : TableRows) → HasFacts c.application c.state → c.state ≡ started c.application t → Suits c.application.generation t → p.durable ≡ t → IsBeside c p
-start_beside c p t facts state suits same = record {
+start_beside : (c : CoreValue) (p : Path) (t : TableRows) → HasFacts c.application c.state → AllReplay c.application c.state → c.state ≡ started c.application t → Suits c.application.generation t → p.durable ≡ t → IsBeside c p
+start_beside c p t facts replays state suits same = record {
   facts = facts;
+  replays = replays;
   durable =
       same
       ∙ sym (durable_same c.application.generation t suits)
       ∙ ap (durable c.application.generation) (sym (ap (λ (s : State). s.tables) state ∙ started_tables c.application t));
 }
 
-pub begun : (g : Generated) (units : FittedUnits) (t : TableRows) (c : CoreValue) (p : Path) → c.application ≡ applied g units → c.state ≡ started c.application t → HasFacts c.application c.state → c.steps ≡ 0
+pub begun : (g : Generated) (units : FittedUnits) (t : TableRows) (c : CoreValue) (p : Path) → c.application ≡ applied g units → c.state ≡ started c.application t → HasFacts c.application c.state → AllReplay c.application c.state → c.steps ≡ 0
     → Suits g t → p.turns ≡ [] → p.sent ≡ [] → HasNoSigns p.signs → p.serial ≡ true → p.durable ≡ t → Begun (applied g units) t c p
-begun g units t c p same state facts steps suits turns sent signs serial durable_is = record {
+begun g units t c p same state facts replays steps suits turns sent signs serial durable_is = record {
   application = same;
   state = state ∙ ap (λ (a : Application). started a t) same;
-  beside = start_beside c p t facts state (subst (λ (a : Application). Suits a.generation t) (sym same) suits) durable_is;
+  beside = start_beside c p t facts replays state (subst (λ (a : Application). Suits a.generation t) (sym same) suits) durable_is;
   turns = turns;
   sent = sent;
   signs = signs;

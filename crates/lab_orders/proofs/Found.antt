@@ -1,43 +1,39 @@
 -- From the start to an end.
 use Rattle.std.proofs.Common.{◌≡◌, ◌+◌, ◌≤◌, length, arith, ℕ, List, [], ◌∷◌, ◌++◌, refl, sym, ap, subst, ◌∙◌}
+use Rattle.std.specs.Prelude.{false}
+use Rattle.std.proofs.lemmas.Bool.{true≢false}
 use Rattle.std.proofs.lemmas.List.{append-nil, length-append}
 use Rattle.application_types.specs.Fitted.{FittedUnits, IsFit}
 use Rattle.application_types.specs.Generation.{Generated}
 use Rattle.kdcs_types.specs.Tables.{TableRows}
 use Rattle.laws_of_runs.specs.Applied.{applied}
-use Rattle.laws_of_states.specs.Keeping.{IsScriptOf}
+use Rattle.laws_of_states.specs.Keeping.{HasFacts, IsScriptOf}
 use Rattle.laws_of_states.specs.Suits.{Suits}
 use Rattle.abstract_monitor.specs.declared.command.Command.{Command}
 use Rattle.abstract_monitor.specs.Commands.{started}
-use Rattle.abstract_monitor.specs.State.{Application, State}
+use Rattle.abstract_monitor.specs.State.{Application}
 use Rattle.monitor_core.specs.CoreValue.{CoreValue}
 use Rattle.lab_walks.specs.declared.frame.Frame.{Frame}
 use Rattle.lab_orders.specs.declared.path.Path.{Path}
 use Rattle.lab_orders.specs.declared.reach.Place.{Place}
-use Rattle.lab_orders.specs.declared.reach.Place.TheVariants.{Inside, Ended}
+use Rattle.lab_orders.specs.declared.reach.Place.TheVariants.{Inside, Ended, Worked}
 use Rattle.lab_orders.specs.declared.performed.Found.{Found}
 use Rattle.lab_orders.specs.declared.search.Seen.{Seen}
 use Rattle.lab_orders.specs.declared.search.Seen.TheVariants as seen
 use Rattle.lab_orders.specs.Drawing.{CameToCommands, Drew}
 use Rattle.lab_orders.specs.Finding.{CanStart, Descended, SawIt}
 use Rattle.lab_walks.specs.Frames.{IsAhead}
-use Rattle.lab_orders.specs.Searching.{CanGo, Followed, GoesOn, Reached, quest_of, spot_of, state_at}
+use Rattle.lab_orders.specs.Searching.{CanGo, IsBesideAt, Quest, Reached, place_of, quest_of, state_at}
 use Rattle.lab_walks.specs.Frames.{IsWay, turns_in}
 use Rattle.lab_orders.specs.Walking.{Begun}
-use Rattle.lab_walks.specs.Walks.{IsEnd, IsWalk, stand}
+use Rattle.lab_walks.specs.Walks.{AtEnd, InRun, IsEnd, IsWalk, stand}
 use Rattle.lab_orders.proofs.Drawing.{came_start, ended_walk}
-use Rattle.lab_orders.proofs.Reaching.{goes_start}
+use Rattle.lab_orders.proofs.Reaching.{run_stands}
 use Rattle.lab_orders.proofs.Searching.{ahead_back, ahead_more, way_walks}
 use Rattle.lab_walks.specs.FramesLaws.{way_more}
 use Rattle.lab_orders.proofs.Steps.{moved}
 
 module _ (app : Application) (t : TableRows) (cs : List Command) (c : CoreValue) (before : Path) (begun : Begun app t c before) where
-  -- a way from the start
-  pub reached_from : (frames : List Frame) (d : CoreValue) (after : Path) (place : Place) → Followed c cs frames d after place → IsWay app cs (started app t) frames → Reached (quest_of app cs t frames) d place
-  reached_from frames d after place followed way =
-      followed.reached (quest_of app cs t frames) (sym begun.application) way
-      (moved (λ a u. GoesOn (quest_of app cs t frames) a u cs frames) begun.application begun.state (goes_start (quest_of app cs t frames)))
-
   -- a walk that was drawn
   pub drawn_is : (d : CoreValue) (after : Path) → Drew c before cs d after → IsWalk app cs (started app t) after.turns
   drawn_is d after drew = ended_walk (record { app = app; commands = cs; start = started app t }) d.application d.state after.turns (drew.came (record { app = app; commands = cs; start = started app t }) [] (sym begun.application) start)
@@ -50,9 +46,20 @@ module _ (app : Application) (t : TableRows) (cs : List Command) (c : CoreValue)
 
 -- ---- again
 
-state_there : (place : Place) (s : State) → state_at (spot_of place s) ≡ s
-state_there (Inside left room) s = refl
-state_there Ended s = refl
+-- the spot of a RUN that the turns lead into
+pub inside_stands : (q : Quest) (d : CoreValue) (p : Path) (left room behind : ℕ) → Reached q d p (Inside left room behind) → place_of q ≡ InRun left room d.state
+inside_stands q d p left room behind inside = run_stands q d.application left room inside.cs d.state p inside.stops.1
+
+module _ (q : Quest) (not_asked : q.asks ≡ false) (d : CoreValue) (p : Path) where
+  reached_state : (place : Place) → Reached q d p place → state_at (place_of q) ≡ d.state
+  reached_state (Inside left room behind) reached = ap state_at (inside_stands q d p left room behind reached)
+  reached_state Ended reached = ap state_at reached
+  reached_state Worked asked = absurd (true≢false (sym asked ∙ not_asked))
+
+  pub reached_facts : (place : Place) → IsBesideAt d p place → Reached q d p place → HasFacts d.application d.state
+  reached_facts (Inside left room behind) beside reached = beside.facts
+  reached_facts Ended beside reached = beside.facts
+  reached_facts Worked beside asked = absurd (true≢false (sym asked ∙ not_asked))
 
 module _ (app : Application) (t : TableRows) (cs : List Command) (g : Generated) (units : FittedUnits) (same : app ≡ applied g units) where
   pub again_start : CanGo app t cs → IsFit g units → CanStart (applied g units) t cs g units
@@ -67,13 +74,13 @@ module _ (app : Application) (t : TableRows) (cs : List Command) (g : Generated)
   pub again_way : (frames : List Frame) → IsWay app cs (started app t) frames → IsWay (applied g units) cs (started (applied g units) t) frames
   again_way frames way = subst (λ (a : Application). IsWay a cs (started a t) frames) same way
 
-  pub again_state : (frames : List Frame) (d : CoreValue) (place : Place) → Reached (quest_of (applied g units) cs t frames) d place → state_at (stand app cs (started app t) (turns_in frames)) ≡ d.state
-  again_state frames d place reached = ap (λ (a : Application). state_at (stand a cs (started a t) (turns_in frames))) same ∙ ap state_at reached ∙ state_there place d.state
+  pub again_state : (frames : List Frame) (d : CoreValue) (p : Path) (place : Place) → Reached (quest_of (applied g units) cs t frames false) d p place → state_at (stand app cs (started app t) (turns_in frames)) ≡ d.state
+  again_state frames d p place reached = ap (λ (a : Application). state_at (stand a cs (started a t) (turns_in frames))) same ∙ reached_state (quest_of (applied g units) cs t frames false) refl d p place reached
 
 -- ---- an end
 
 -- the way to an end is a walk
-pub reached_walk : (app : Application) (t : TableRows) (cs : List Command) (frames : List Frame) (d : CoreValue) → IsWay app cs (started app t) frames → Reached (quest_of app cs t frames) d Ended → IsEnd (stand app cs (started app t) (turns_in frames)) × IsWalk app cs (started app t) (turns_in frames)
+pub reached_walk : (app : Application) (t : TableRows) (cs : List Command) (frames : List Frame) (d : CoreValue) → IsWay app cs (started app t) frames → place_of (quest_of app cs t frames false) ≡ AtEnd d.state → IsEnd (stand app cs (started app t) (turns_in frames)) × IsWalk app cs (started app t) (turns_in frames)
 reached_walk app t cs frames d way reached = let end = subst IsEnd (sym reached) tt in (end, way_walks app cs (started app t) frames way end)
 
 -- ---- down to an end

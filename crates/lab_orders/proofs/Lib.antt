@@ -6,7 +6,9 @@ pub mod Effects
 pub mod Ended
 pub mod Exploring
 pub mod Finding
+pub mod Following
 pub mod Found
+pub mod Looking
 pub mod Named
 pub mod Ordered
 pub mod Performing

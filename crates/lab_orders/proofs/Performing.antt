@@ -17,13 +17,15 @@ use Rattle.abstract_monitor.specs.Endings.{durable}
 use Rattle.abstract_monitor.specs.State.{Application, State}
 use Rattle.abstract_monitor.specs.Trace.{bytes_of, history}
 use Rattle.laws_of_states.specs.Keeping.{HasFacts, IsScriptOf}
+use Rattle.laws_of_runs.specs.Replays.{AllReplay}
 use Rattle.monitor_core.specs.CoreValue.{CoreValue}
 use Rattle.lab_walks.specs.Orders.{turned_run, turned_script}
 use Rattle.lab_walks.specs.Serial.{is_one_at_a_time}
 use Rattle.lab_walks.specs.Signs.{has_work, is_at_rest, is_dump, is_k04, is_k05, is_refused_in, run_end, run_ends}
 use Rattle.lab_walks.specs.Walks.{AtEnd, CanBe, InRun, IsWalk, Spot, stand}
 use Rattle.lab_orders.specs.declared.path.Path.{Path}
-use Rattle.lab_orders.specs.Performing.{Ahead, AreTasks, Goes, IsLeft, PerformedCommand, PerformedOne, PerformedRun, PerformedScript, Tells, ahead, ahead_at_end, ahead_in}
+use Rattle.lab_orders.specs.Performing.{AreTasks, Goes, IsLeft, PerformedCommand, PerformedOne, PerformedRun, PerformedScript, Tells, ahead_at_end}
+use Rattle.lab_walks.specs.Ahead.{Ahead, ahead, ahead_in}
 use Rattle.lab_orders.specs.Trying.{Rested}
 use Rattle.lab_orders.specs.Walking.{Begun, DidCommand, IsBeside, IsNoRun, IsSeen, tries_of}
 use Rattle.lab_orders.proofs.Commands.{here_and_behind, name_here, tries_here}
@@ -39,7 +41,7 @@ or_more : (a b c : Bool) → ((a || b) || c) ≡ (a || (b || c))
 or_more true b c = refl
 or_more false b c = refl
 
-flags_both : {X : Type 0} (p : X → Bool) (xs ys : List X) (a b c : Bool) → b ≡ (a || list_any p xs) → c ≡ (b || list_any p ys) → c ≡ (a || list_any p (xs ++ ys))
+pub flags_both : {X : Type 0} (p : X → Bool) (xs ys : List X) (a b c : Bool) → b ≡ (a || list_any p xs) → c ≡ (b || list_any p ys) → c ≡ (a || list_any p (xs ++ ys))
 flags_both p xs ys a b c first next =
     next
     ∙ ap (λ f. f || list_any p ys) first
@@ -54,7 +56,7 @@ and_more : (a b c : Bool) → ((a && b) && c) ≡ (a && (b && c))
 and_more true b c = refl
 and_more false b c = refl
 
-all_both : {X : Type 0} (p : X → Bool) (xs ys : List X) (a b c : Bool) → b ≡ (a && list_all p xs) → c ≡ (b && list_all p ys) → c ≡ (a && list_all p (xs ++ ys))
+pub all_both : {X : Type 0} (p : X → Bool) (xs ys : List X) (a b c : Bool) → b ≡ (a && list_all p xs) → c ≡ (b && list_all p ys) → c ≡ (a && list_all p (xs ++ ys))
 all_both p xs ys a b c first next =
     next
     ∙ ap (λ f. f && list_all p ys) first
@@ -65,7 +67,7 @@ tells_none : (p : Path) → Tells p [] p
 unfolding bytes_of
 tells_none p = record { sent = sym (append-nil p.sent); k04 = or_false p.signs.k04; k05 = or_false p.signs.k05; dump = or_false p.signs.dump; serial = and_true p.serial }
 
-tells_step : (before after : Path) (d : ScriptStep) → after.sent ≡ before.sent ++ bytes_of d.acts → IsSeen before.signs d after.signs → after.serial ≡ (before.serial && is_one_at_a_time d.after) → Tells before (d ∷ []) after
+pub tells_step : (before after : Path) (d : ScriptStep) → after.sent ≡ before.sent ++ bytes_of d.acts → IsSeen before.signs d after.signs → after.serial ≡ (before.serial && is_one_at_a_time d.after) → Tells before (d ∷ []) after
 tells_step before after d sent seen serial = record {
   sent = sent ∙ ap (λ (l : List Act). before.sent ++ bytes_of l) (sym (append-nil d.acts));
   k04 = seen.k04 ∙ ap (λ b. before.signs.k04 || b) (or_false (is_refused_in is_k04 d.after));
@@ -89,7 +91,7 @@ tells_both p q r xs ys first next = record {
 
 -- ---- some steps, and more
 
-none_of_both : (p : State → Bool) (xs ys : List State) → list_any p xs ≡ false → list_any p ys ≡ false → list_any p (xs ++ ys) ≡ false
+pub none_of_both : (p : State → Bool) (xs ys : List State) → list_any p xs ≡ false → list_any p ys ≡ false → list_any p (xs ++ ys) ≡ false
 none_of_both p xs ys first next = list_any-append p xs ys ∙ (λ i. first i || next i)
 
 or_true : (b : Bool) → (b || true) ≡ true
@@ -140,7 +142,7 @@ goes_end asks c d p q all s left g rests = record {
 -- ---- in a RUN
 
 module _ (app : Application) (s : State) (cs : List Command) where
-  at_over : (o : List ℕ) → ahead_in app s 0 cs o ≡ ahead_at_end app s cs o
+  pub at_over : (o : List ℕ) → ahead_in app s 0 cs o ≡ ahead_at_end app s cs o
   unfolding turned_run run_end
   at_over o = refl
 
@@ -148,11 +150,11 @@ module _ (app : Application) (s : State) (cs : List Command) where
   unfolding turned_run run_end
   at_none n = refl
 
-  at_zero : (n : ℕ) (o : List ℕ) → ahead_in app s (suc n) cs (0 ∷ o) ≡ ahead_at_end app s cs o
+  pub at_zero : (n : ℕ) (o : List ℕ) → ahead_in app s (suc n) cs (0 ∷ o) ≡ ahead_at_end app s cs o
   unfolding turned_run run_end
   at_zero n o = refl
 
-  at_turn : (n t : ℕ) (o : List ℕ) → ahead_in app s (suc n) cs (suc t ∷ o) ≡ (command_of app s (Turn (suc t)) ∷ (ahead_in app (command_of app s (Turn (suc t))).after n cs o).0, (ahead_in app (command_of app s (Turn (suc t))).after n cs o).1)
+  pub at_turn : (n t : ℕ) (o : List ℕ) → ahead_in app s (suc n) cs (suc t ∷ o) ≡ (command_of app s (Turn (suc t)) ∷ (ahead_in app (command_of app s (Turn (suc t))).after n cs o).0, (ahead_in app (command_of app s (Turn (suc t))).after n cs o).1)
   unfolding turned_run run_end history steps_of command_of state_after
   at_turn n t o = refl
 
@@ -249,14 +251,22 @@ module _ (c d : CoreValue) (before now : Path) (turns made : ℕ) (walk rest : L
               subst (λ (s : State). Goes true d now (step ∷ (ahead_in c.application s (turns - (made + 1)) cs behind).0, (ahead_in c.application s (turns - (made + 1)) cs behind).1) next later (ahead_in c.application next.state (turns - (made + 1)) cs behind)) after
               (goes_step true d next now later step (ahead_in c.application next.state (turns - (made + 1)) cs behind) after (did.sent ∙ ap (λ (x : ScriptStep). now.sent ++ bytes_of x.acts) step_is) (subst (λ (x : ScriptStep). IsSeen now.signs x later.signs) step_is did.signs) did.serial)
 
+-- a core that was found to rest
+pub still_beside : (d e : CoreValue) (p : Path) → Rested d e true → IsBeside d p → IsBeside e p
+still_beside d e p rested beside = record {
+  facts = moved HasFacts rested.application (rested.stays refl) beside.facts;
+  replays = moved AllReplay rested.application (rested.stays refl) beside.replays;
+  durable = beside.durable ∙ (λ i. durable (sym rested.application i).generation (sym (rested.stays refl) i).tables);
+}
+
 -- ---- one command
 
 module _ (app : Application) (s : State) (cs : List Command) where
-  ahead_begins : (n : ℕ) (o : List ℕ) → ahead app s (Run n ∷ cs) o ≡ ahead_in app s n cs o
+  pub ahead_begins : (n : ℕ) (o : List ℕ) → ahead app s (Run n ∷ cs) o ≡ ahead_in app s n cs o
   unfolding turned_script run_ends
   ahead_begins n o = refl
 
-  ahead_behind : (c : Command) → IsNoRun c → (o : List ℕ) → ahead app s (c ∷ cs) o ≡ (command_of app s c ∷ (ahead app (command_of app s c).after cs o).0, (ahead app (command_of app s c).after cs o).1)
+  pub ahead_behind : (c : Command) → IsNoRun c → (o : List ℕ) → ahead app s (c ∷ cs) o ≡ (command_of app s c ∷ (ahead app (command_of app s c).after cs o).0, (ahead app (command_of app s c).after cs o).1)
   unfolding turned_script run_ends history steps_of state_after
   ahead_behind (Run turns) h o = absurd h
   ahead_behind (Input pterm text) h o = refl
@@ -301,10 +311,7 @@ module _ (c : CoreValue) (before : Path) (command : Command) (turns : ℕ) (is :
     pub run_rested : (rests : Bool) → Rested d e rests → PerformedOne asks c before command walk e after behind rests
     run_rested true rested = record {
       application = rested.application ∙ run.application;
-      beside = record {
-        facts = moved HasFacts rested.application (rested.stays refl) run.beside.facts;
-        durable = run.beside.durable ∙ (λ i. durable (sym rested.application i).generation (sym (rested.stays refl) i).tables);
-      };
+      beside = still_beside d e after rested run.beside;
       tasks = run.tasks;
       goes = λ cs.
           subst (λ (l : Ahead). Goes asks c before l e after (ahead c.application e.state cs behind)) (sym (begins cs))

@@ -247,7 +247,7 @@ module _ (app : Application) (cs : List Command) (s : State) where
   pub way_none : (frames : List Frame) → frames ≡ [] → IsWay app cs s frames
   way_none frames none before f behind e = absurd (not_none before f behind (sym none ∙ e))
 
-  -- the whole turns of a way that leads to an end are a walk
+  -- each turn of a way can be where it is; where they lead to an end, they are a walk
   frames_split : (frames : List Frame) (before : List ℕ) (t : ℕ) (behind : List ℕ) → turns_in frames ≡ before ++ t ∷ behind
       → (b : List Frame) × (f : Frame) × (l : List Frame) × (frames ≡ b ++ f ∷ l) × (turns_in b ≡ before) × (turn_in f ≡ t)
   unfolding head_of tail_of
@@ -261,13 +261,13 @@ module _ (app : Application) (cs : List Command) (s : State) where
   taken_can (AtEnd u) f h = absurd h
   taken_can (InRun left room u) f h = h.can f.at 0 h.at
 
+  pub way_can : (frames : List Frame) → IsWay app cs s frames → (before : List ℕ) (t : ℕ) (behind : List ℕ) → turns_in frames ≡ before ++ t ∷ behind → CanBe app (stand app cs s before) t
+  way_can frames way before t behind e =
+      let it = frames_split frames before t behind e in
+      subst (λ (x : List ℕ × ℕ). CanBe app (stand app cs s x.0) x.1) (λ i. (it.4 i, it.5 i)) (taken_can (stand app cs s (turns_in it.0)) it.1 (way it.0 it.1 it.2 it.3))
+
   pub way_walks : (frames : List Frame) → IsWay app cs s frames → IsEnd (stand app cs s (turns_in frames)) → IsWalk app cs s (turns_in frames)
-  way_walks frames way end = record {
-    can = λ before t behind e.
-        let it = frames_split frames before t behind e in
-        subst (λ (x : List ℕ × ℕ). CanBe app (stand app cs s x.0) x.1) (λ i. (it.4 i, it.5 i)) (taken_can (stand app cs s (turns_in it.0)) it.1 (way it.0 it.1 it.2 it.3));
-    end = end;
-  }
+  way_walks frames way end = record { can = way_can frames way; end = end }
 
   -- ---- what is ahead
 

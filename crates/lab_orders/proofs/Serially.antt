@@ -16,6 +16,7 @@ use Rattle.lab_walks.specs.Outcomes.{Result}
 use Rattle.lab_orders.specs.declared.explored.Explored.{Explored}
 use Rattle.lab_orders.specs.declared.explored.Outcome.{Outcome}
 use Rattle.lab_orders.specs.Exploring.{AreToldSerial, IsOfAllWalks, IsShown, LeavesSerially, SomeOrNone, is_serial_with, tables_are_serial}
+use Rattle.lab_orders.specs.Standing.{IsAsGood}
 use Rattle.lab_orders.specs.Told.{AreTold, AreWalks, comes_serially}
 use Rattle.lab_orders.proofs.Told.{comes_true, true_comes}
 
@@ -98,6 +99,14 @@ module _ (app : Application) (t : TableRows) (cs : List Command) (walks : List (
           omega (arith, number, some)
   serial_some (x ∷ xs) told tables w there (inr later) leaves = or_yes (is_serial_with tables x) (list_any (is_serial_with tables) xs) (serial_some xs told.1 tables w there later leaves)
 
+-- a walk with each transaction in one go is stood for by one
+leaves_so : (app : Application) (t : TableRows) (cs : List Command) (tables : Bytes) (w v : List ℕ) → IsAsGood app cs (started app t) v w → LeavesSerially app t cs tables w → LeavesSerially app t cs tables v
+leaves_so app t cs tables w v good leaves = record {
+  walk_is = good.stands.walk_is;
+  serial = good.stands.serial ∙ leaves.serial;
+  tables_are = ap (λ (r : Result). r.tables) good.stands.result ∙ leaves.tables_are;
+}
+
 -- just so is it told of all walks
 pub told_serial : (app : Application) (t : TableRows) (cs : List Command) (most : ℕ) (e : Explored) → IsOfAllWalks app t cs most e → AreToldSerial app t cs e.outcomes
 told_serial app t cs most e whole x there = by (tables_are_serial e.outcomes x) refl
@@ -105,5 +114,6 @@ told_serial app t cs most e whole x there = by (tables_are_serial e.outcomes x) 
     by : (b : Bool) → tables_are_serial e.outcomes x ≡ b → SomeOrNone app t cs x.tables b
     by true is = some_serial app t cs whole.walks whole.tally.walks_are e.outcomes whole.tally.told x.tables is
     by false is = λ w leaves.
-        let among = whole.each_walk w leaves.walk_is in
-        absurd (true≢false (sym (serial_some app t cs whole.walks e.outcomes whole.tally.told x.tables w among (whole.tally.shown w among) leaves) ∙ is))
+        let stood = whole.stood w leaves.walk_is in
+        let others = leaves_so app t cs x.tables w stood.other stood.good leaves in
+        absurd (true≢false (sym (serial_some app t cs whole.walks e.outcomes whole.tally.told x.tables stood.other stood.among (whole.tally.shown stood.other stood.among) others) ∙ is))

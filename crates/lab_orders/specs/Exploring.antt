@@ -1,5 +1,5 @@
 -- What an exploration promises.
-use Rattle.std.specs.Prelude.{◌≡◌, ◌⊎◌, ◌+◌, ◌≤◌, ℕ, zero, suc, Bool, true, false, ◌&&◌, List, [], ◌∷◌, bytes_eq, cond, length, nat_lt, sum_by, Option, Some, None}
+use Rattle.std.specs.Prelude.{◌≡◌, ◌⊎◌, ◌+◌, ◌≤◌, ℕ, zero, suc, Bool, true, false, ◌&&◌, List, [], ◌∷◌, bytes_eq, cond, length, nat_lt, sum_by, Option, Some, None, ◌++◌}
 use Rattle.std.specs.List.{list_any}
 use Rattle.kdcs_types.specs.Tables.{TableRows}
 use Rattle.abstract_monitor.specs.declared.command.Command.{Command}
@@ -9,8 +9,12 @@ use Rattle.laws_of_states.specs.ItemsLaws.{IsIn}
 use Rattle.lab_orders.specs.declared.explored.Explored.{Explored}
 use Rattle.lab_orders.specs.declared.explored.Outcome.{Outcome}
 use Rattle.lab_orders.specs.declared.performed.Found.{Found}
-use Rattle.lab_orders.specs.Finding.{found_result}
+use Rattle.lab_orders.specs.declared.standing.Node.{Node}
+use Rattle.lab_orders.specs.Finding.{IsFound, found_result}
 use Rattle.lab_orders.specs.Laws.{IsOrdered}
+use Rattle.lab_orders.specs.Standing.{AllAreCovered, AreNodes, IsFollowed, IsStoodFor}
+use Rattle.lab_walks.specs.declared.frame.Frame.{Frame}
+use Rattle.lab_walks.specs.Frames.{turns_in}
 use Rattle.lab_walks.specs.Lists.{AreOnce}
 use Rattle.lab_walks.specs.Orders.{IsOrder}
 use Rattle.abstract_monitor.specs.Bytes.{Bytes}
@@ -112,23 +116,26 @@ pub record IsTried (app : Application) (t : TableRows) (commands : List Command)
   -- each comes to one of the outcomes
   pub shown : (walk : List ℕ) → IsIn walk walks → IsShown app t commands e.outcomes walk
   pub told : AreTold app commands (started app t) walks e.outcomes
-  -- where all were tried, each was, and once
-  pub once : e.all ≡ true → AreOnce walks
-  pub whole : e.all ≡ true → (walk : List ℕ) → IsWalk app commands (started app t) walk → IsIn walk walks
+  -- where they tell of all, each walk is stood for by one of them
+  pub stood : e.all ≡ true → (walk : List ℕ) → IsWalk app commands (started app t) walk → IsStoodFor app commands (started app t) walks walk
+  -- where each was tried, it was, and once
+  pub once : e.each ≡ true → AreOnce walks
+  pub whole : e.each ≡ true → (walk : List ℕ) → IsWalk app commands (started app t) walk → IsIn walk walks
 
--- of all walks, which are at most so many
+-- of walks that stand for all, which are at most so many, or of each walk
 pub record IsOfAllWalks (app : Application) (t : TableRows) (commands : List Command) (most : ℕ) (e : Explored) : Type 0 where
   pub walks : List (List ℕ)
   pub tally : IsTally app t commands walks e.outcomes
   pub number : length walks ≡ e.orders
-  pub once : AreOnce walks
-  pub each_walk : (walk : List ℕ) → IsWalk app commands (started app t) walk → IsIn walk walks
+  pub stood : (walk : List ℕ) → IsWalk app commands (started app t) walk → IsStoodFor app commands (started app t) walks walk
+  pub once : e.each ≡ true → AreOnce walks
+  pub whole : e.each ≡ true → (walk : List ℕ) → IsWalk app commands (started app t) walk → IsIn walk walks
   pub all : e.all ≡ true
   pub most_orders : e.orders ≤ most
 
--- of all walks, or there are more than so many
+-- of all walks; where not each of them was tried, there are more than so many
 abbrev pub AllOrMore : Application → TableRows → List Command → (most : ℕ) → Option Explored → Type 0
-AllOrMore app t commands most (Some e) = IsOfAllWalks app t commands most e
+AllOrMore app t commands most (Some e) = IsOfAllWalks app t commands most e × (e.each ≡ false → AreMore app commands (started app t) most)
 AllOrMore app t commands most None = AreMore app commands (started app t) most
 
 -- of just so many walks
@@ -137,6 +144,7 @@ pub record IsDrawn (app : Application) (t : TableRows) (commands : List Command)
   pub tally : IsTally app t commands walks e.outcomes
   pub number : length walks ≡ e.orders
   pub all : e.all ≡ false
+  pub each : e.each ≡ false
   pub orders : e.orders ≡ most
 
 -- ---- one order more
@@ -179,3 +187,24 @@ IsAdded [] (y ∷ []) found = IsFirst y found
 IsAdded [] (y ∷ z ∷ zs) found = ⊥
 IsAdded (x ∷ xs) [] found = ⊥
 IsAdded (x ∷ xs) (y ∷ ys) found = (IsCounted x y found × (ys ≡ xs)) ⊎ ((y ≡ x) × (IsThatOf x found → ⊥) × IsAdded xs ys found)
+
+-- ---- walks that stand for all
+
+-- the walks that were found, at most so many, and those that begin with the turns of these nodes stand for all
+pub record AreFollowed (app : Application) (t : TableRows) (commands : List Command) (most orders : ℕ) (outcomes : List Outcome) (nodes : List Node) : Type 0 where
+  pub walks : List (List ℕ)
+  pub tally : IsTally app t commands walks outcomes
+  pub number : length walks ≡ orders
+  pub few : orders ≤ most
+  pub nodes_are : AreNodes app t commands nodes
+  pub covered : AllAreCovered app commands (started app t) walks nodes
+
+-- the turns of these frames were followed to nodes, or they are a walk, with which no other begins
+abbrev pub IsFollowedIf : Application → TableRows → List Command → (nodes : List Node) → List Frame → Option Found → Type 0
+IsFollowedIf app t commands nodes frames None = IsFollowed app commands (started app t) nodes frames
+IsFollowedIf app t commands nodes frames (Some found) = IsFound app t commands found × ((o : List ℕ) → IsWalk app commands (started app t) (turns_in frames ++ o) → turns_in frames ++ o ≡ found.turns)
+
+-- what was found, if anything, is added, and the orders are at most so many
+abbrev pub IsAddedIf : (most : ℕ) → (old new : List Outcome) → (before after : ℕ) → Option Found → Type 0
+IsAddedIf most old new before after None = (new ≡ old) × (after ≡ before)
+IsAddedIf most old new before after (Some found) = IsAdded old new found × (after ≡ before + 1) × (after ≤ most)

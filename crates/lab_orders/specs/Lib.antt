@@ -4,6 +4,8 @@ pub mod Searching
 pub mod Drawing
 pub mod Finding
 pub mod Performing
+pub mod Alike
+pub mod Standing
 pub mod Told
 pub mod Exploring
 pub mod Laws

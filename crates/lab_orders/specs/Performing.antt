@@ -5,11 +5,12 @@ use Rattle.kdcs_types.specs.Tables.{TableRows}
 use Rattle.abstract_monitor.specs.declared.command.Command.{Command}
 use Rattle.abstract_monitor.specs.Commands.{ScriptStep, acts_of, started, state_after}
 use Rattle.abstract_monitor.specs.State.{Application, State}
-use Rattle.abstract_monitor.specs.Trace.{bytes_of, history}
+use Rattle.abstract_monitor.specs.Trace.{bytes_of}
 use Rattle.monitor_core.specs.CoreValue.{CoreValue}
-use Rattle.lab_walks.specs.Orders.{order_steps, turned_run, turned_script}
+use Rattle.lab_walks.specs.Ahead.{Ahead, ahead, ahead_in}
+use Rattle.lab_walks.specs.Orders.{order_steps}
 use Rattle.lab_walks.specs.Serial.{is_serial_along}
-use Rattle.lab_walks.specs.Signs.{has_work, is_dump_along, is_k04, is_k05, is_refused_along, run_end, run_ends}
+use Rattle.lab_walks.specs.Signs.{has_work, is_dump_along, is_k04, is_k05, is_refused_along, run_ends}
 use Rattle.lab_orders.specs.declared.path.Path.{Path}
 use Rattle.lab_orders.specs.declared.performed.Attempt.{Attempt}
 use Rattle.lab_orders.specs.declared.performed.Attempt.TheVariants.{Ended, HasWork}
@@ -27,17 +28,6 @@ pub record Tells (before : Path) (steps : List ScriptStep) (after : Path) : Type
   pub k05 : after.signs.k05 ≡ (before.signs.k05 || is_refused_along is_k05 steps)
   pub dump : after.signs.dump ≡ (before.signs.dump || is_dump_along steps)
   pub serial : after.serial ≡ (before.serial && is_serial_along steps)
-
--- the steps of a walk that are still to be done, and the states in which its RUNs are still to end
-abbrev pub Ahead : Type 0
-Ahead = List ScriptStep × List State
-
-abbrev pub ahead : Application → State → List Command → (walk : List ℕ) → Ahead
-ahead app s cs walk = (order_steps app cs s walk, run_ends app cs s walk)
-
--- in a RUN with so many turns left
-abbrev pub ahead_in : Application → State → (turns : ℕ) → List Command → (walk : List ℕ) → Ahead
-ahead_in app s turns cs walk = (history app s (turned_run turns (turned_script cs) walk), run_end app turns (run_ends app cs) s walk)
 
 -- where a RUN ends
 abbrev pub ahead_at_end : Application → State → List Command → (walk : List ℕ) → Ahead

@@ -2,6 +2,7 @@
 use Rattle.std.specs.Prelude.{◌≡◌, ℕ, Bool, true, false, Option, Some, None}
 use Rattle.abstract_monitor.specs.Turns.{turn_of}
 use Rattle.laws_of_states.specs.Keeping.{HasFacts}
+use Rattle.laws_of_runs.specs.Replays.{AllReplay}
 use Rattle.monitor_core.specs.CoreValue.{CoreValue}
 use Rattle.service_ends.specs.Ending.{turned_to}
 use Rattle.service_ends.specs.declared.turned.Turned.{Turned as Did}
@@ -16,6 +17,7 @@ DidOrNot c task d None = (has_effect c.application c.state task ≡ false) × (d
 pub record Tried (c : CoreValue) (task : ℕ) (d : CoreValue) (did : Option Did) : Type 0 where
   pub application : d.application ≡ c.application
   pub facts : HasFacts d.application d.state
+  pub replays : AllReplay d.application d.state
   pub exact : DidOrNot c task d did
 
 -- it was tried, and had an effect or left the state as it was

@@ -7,6 +7,7 @@ use Rattle.abstract_monitor.specs.Commands.{ScriptStep, command_of, started}
 use Rattle.abstract_monitor.specs.State.{Application}
 use Rattle.abstract_monitor.specs.Trace.{bytes_of}
 use Rattle.laws_of_states.specs.Keeping.{HasFacts}
+use Rattle.laws_of_runs.specs.Replays.{AllReplay}
 use Rattle.monitor_core.specs.CoreSteps.{durable_of}
 use Rattle.monitor_core.specs.CoreValue.{CoreValue}
 use Rattle.lab_walks.specs.declared.signs.Signs.{Signs}
@@ -39,6 +40,7 @@ IsNoRun Restart = Unit {0}
 -- a core between two steps, with the durable tables beside it
 pub record IsBeside (c : CoreValue) (p : Path) : Type 0 where
   pub facts : HasFacts c.application c.state
+  pub replays : AllReplay c.application c.state
   pub durable : p.durable ≡ durable_of c
 
 -- ---- what was seen

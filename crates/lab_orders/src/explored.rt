@@ -1,4 +1,4 @@
-//! All orders of a script, and the distinct outcomes.
+//! The orders of a script, and the distinct outcomes.
 ghost use Rattle.std.specs.Prelude.{◌≡◌, ◌↔◌, ◌+◌, ◌<◌, ◌≤◌, ◌^◌, true, false, cond, All, IsTrue, IfOk, MatchOption, OnOk, sum_by};
 ghost use Rattle.abstract_monitor.specs.Commands.{started};
 ghost use Rattle.laws_of_runs.specs.Applied.{applied};
@@ -8,6 +8,7 @@ use crate::draw::drawn_order;
 use crate::laws_of_orders::{orders_are_walked, walks_are_orders};
 use crate::performed::Found;
 use crate::search::descend;
+use crate::standing::standing_orders;
 use abstract_monitor::Command;
 use application_types::generation::Generation;
 use application_types::units::Units;
@@ -64,8 +65,10 @@ pub struct Explored {
     pub outcomes: Sequence<Outcome>,
     /// How many orders were tried.
     pub orders: u64,
-    /// These are all orders, each once.
+    /// Each order comes to one of the outcomes.
     pub all: bool,
+    /// All orders were tried, each once.
+    pub each: bool,
 }
 
 impl Drop for Explored {
@@ -74,24 +77,28 @@ impl Drop for Explored {
             outcomes,
             orders,
             all,
+            each,
         } = self;
         let _ = outcomes;
         let _ = orders;
         let _ = all;
+        let _ = each;
     }
 }
 
 impl Explored {
-    // The outcomes of all orders.
-    fn all(outcomes: Vec<Outcome>, orders: u64) -> Explored
+    /// The outcomes of all orders, of which each was tried, or some that stand for all.
+    pub(crate) fn all(outcomes: Vec<Outcome>, orders: u64, each: bool) -> Explored
         ensures outcomes { result.outcomes ≡ outcomes.items }
         ensures orders { result.orders ≡ orders }
         ensures all { result.all ≡ true }
+        ensures each { result.each ≡ each }
     {
         Explored {
             outcomes: Sequence::from_vec(outcomes),
             orders,
             all: true,
+            each,
         }
     }
 }
@@ -163,8 +170,8 @@ fn place_of(outcomes: &[Outcome], found: &Found) -> Option<usize>
     None
 }
 
-// What comes out of an order is among the outcomes.
-fn add(outcomes: &mut Vec<Outcome>, found: Found) -> Result<(), OutOfMemory>
+/// What comes out of an order is among the outcomes.
+pub(crate) fn add(outcomes: &mut Vec<Outcome>, found: Found) -> Result<(), OutOfMemory>
     requires orders { sum_by (λ o. o.orders) outcomes.old.items + 1 < 2 ^ 64 }
     requires serial { All (λ o. o.serial + 1 < 2 ^ 64) outcomes.old.items }
     ensures { OnOk result (IsAdded outcomes.old.items outcomes.new.items found) }
@@ -177,7 +184,7 @@ fn add(outcomes: &mut Vec<Outcome>, found: Found) -> Result<(), OutOfMemory>
 }
 
 /// A generation and its units, and all outcomes, if they are known.
-type Tried = (Generation, Units, Option<Explored>);
+pub(crate) type Tried = (Generation, Units, Option<Explored>);
 
 // All orders, one after another, if they are at most so many. Otherwise one more is found.
 fn all_orders(
@@ -200,7 +207,11 @@ fn all_orders(
         units = u;
         add(&mut outcomes, found)?;
         if !advance(&mut frames)? {
-            return Ok((generation, units, Some(Explored::all(outcomes, tried + 1))));
+            return Ok((
+                generation,
+                units,
+                Some(Explored::all(outcomes, tried + 1, true)),
+            ));
         }
     }
     let (generation, units, _more) = descend(
@@ -212,6 +223,26 @@ fn all_orders(
         &mut frames,
     )?;
     Ok((generation, units, None))
+}
+
+// All orders, or some that stand for all.
+fn whole_orders(
+    alloc: Global,
+    generation: Generation,
+    units: Units,
+    tables: &Tables,
+    commands: &[Command],
+    most: u64,
+) -> Result<Tried, OutOfMemory>
+    requires { CanStart (applied generation units) tables.now commands.now generation units }
+    ensures again { IfOk result (λ n. CanStart (applied generation units) tables.now commands.now n.0 n.1) }
+    ensures whole { IfOk result (λ n. AllOrMore (applied generation units) tables.now commands.now most n.2) }
+{
+    let (generation, units, whole) = all_orders(alloc, generation, units, tables, commands, most)?;
+    if let Some(explored) = whole {
+        return Ok((generation, units, Some(explored)));
+    }
+    standing_orders(alloc, generation, units, tables, commands, most)
 }
 
 // So many orders that are drawn.
@@ -240,13 +271,14 @@ fn drawn_orders(
         outcomes: Sequence::from_vec(outcomes),
         orders: most,
         all: false,
+        each: false,
     };
     Ok((generation, units, explored))
 }
 
 /// Tries orders of a script, from these tables, and keeps their distinct outcomes: all orders, where these are at most so
-/// many, else so many that are drawn, each turn of a RUN by pseudo-random numbers that follow from this one. The generation
-/// and the units come back beside them.
+/// many, else some that stand for all, where no more than so many are followed at once, else so many that are drawn, each
+/// turn of a RUN by pseudo-random numbers that follow from this one. The generation and the units come back beside them.
 pub fn explore(
     alloc: Global,
     generation: Generation,
@@ -262,7 +294,8 @@ pub fn explore(
     ensures orders { IfOk result (λ r. AreOrdered (applied generation units) tables.now commands.now r.2.outcomes) }
     ensures all { IfOk result (λ r. r.2.all ≡ true → AreAll (applied generation units) tables.now commands.now r.2.outcomes) }
     ensures tried { IfOk result (λ r. IsTried (applied generation units) tables.now commands.now r.2) }
-    ensures more { IfOk result (λ r. r.2.all ≡ false → AreMore (applied generation units) commands.now (started (applied generation units) tables.now) most) }
+    ensures each { IfOk result (λ r. r.2.each ≡ true → r.2.all ≡ true) }
+    ensures more { IfOk result (λ r. r.2.each ≡ false → AreMore (applied generation units) commands.now (started (applied generation units) tables.now) most) }
     ensures serial { IfOk result (λ r. r.2.all ≡ true → AreToldSerial (applied generation units) tables.now commands.now r.2.outcomes) }
     ensures distinct { IfOk result (λ r. AreDistinct r.2.outcomes) }
     ensures counted { IfOk result (λ r. sum_by (λ o. o.orders) r.2.outcomes ≡ r.2.orders) }
@@ -273,7 +306,9 @@ pub fn explore(
     walks_are_orders();
     fitted_units_make_an_application(&generation, &units);
     let _clock = tables.clock(); // for the proof
-    let (generation, units, whole) = all_orders(alloc, generation, units, tables, commands, most)?;
+    let (generation, units, whole) = whole_orders(
+        alloc, generation, units, tables, commands, most,
+    )?;
     match whole {
         Some(explored) => Ok((generation, units, explored)),
         None => drawn_orders(alloc, generation, units, tables, commands, most, number),

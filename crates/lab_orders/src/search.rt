@@ -22,7 +22,7 @@ use monitor_core::Core;
 use std::alloc::Global;
 
 /// Where some turns lead: to an end, or to what can be next.
-enum Seen {
+pub(crate) enum Seen {
     Ended(Found),
     Open(Frame),
 }
@@ -43,7 +43,7 @@ fn again(
     ensures steps { IfOk result (λ next. next.steps ≤ sum_by tries_of commands.now) }
 {
     let (generation, units) = core.into_application();
-    let (core, _place) = reach(alloc, generation, units, tables, commands, frames)?;
+    let (core, _, _place) = reach(alloc, generation, units, tables, commands, frames, false)?;
     Ok(core)
 }
 
@@ -112,8 +112,8 @@ fn open(
     Ok((core, frame))
 }
 
-// Where the turns lead.
-fn see(
+/// Where the turns lead.
+pub(crate) fn see(
     alloc: Global,
     generation: Generation,
     units: Units,
@@ -126,7 +126,7 @@ fn see(
     ensures again { IfOk result (λ n. CanStart (applied generation units) tables.now commands.now n.0 n.1) }
     ensures saw { IfOk result (λ n. SawIt (applied generation units) commands.now tables.now frames.now n.2) }
 {
-    let (core, place) = reach(alloc, generation, units, tables, commands, frames)?;
+    let (core, _, place) = reach(alloc, generation, units, tables, commands, frames, false)?;
     match place {
         Place::Ended => {
             let turns = turns_of(alloc, frames)?;
@@ -136,11 +136,12 @@ fn see(
             )?;
             Ok((generation, units, Seen::Ended(found)))
         }
-        Place::Inside(left, room) => {
+        Place::Inside(left, room, _) => {
             let (core, frame) = open(alloc, core, tables, commands, frames, left, room)?;
             let (generation, units) = core.into_application();
             Ok((generation, units, Seen::Open(frame)))
         }
+        Place::Worked => unreachable!(),
     }
 }
 

@@ -2,7 +2,7 @@
 ghost use Rattle.std.specs.Prelude.{◌≡◌, IfOk};
 ghost use Rattle.laws_of_states.specs.Suits.{Suits};
 ghost use Rattle.application_types.specs.Fitted.{IsFit};
-ghost use Rattle.laws_of_runs.specs.Applied.{applied};
+ghost use Rattle.laws_of_runs.specs.{Applied.{applied}, Replays.{AllReplay}};
 ghost use Rattle.abstract_monitor.specs.Commands.{started};
 ghost use Rattle.laws_of_states.specs.Keeping.{HasFacts};
 ghost use Rattle.lab_orders.specs.Walking.{Begun};
@@ -27,6 +27,7 @@ pub(crate) fn start(
     ensures application { IfOk result (λ core. core.application ≡ applied generation units) }
     ensures state { IfOk result (λ core. core.state ≡ started core.application tables.now) }
     ensures facts { IfOk result (λ core. HasFacts core.application core.state) }
+    ensures replays { IfOk result (λ core. AllReplay core.application core.state) }
     ensures steps { IfOk result (λ core. core.steps ≡ 0) }
 {
     Core::start(alloc, generation, units, tables.clone()?)

@@ -31,7 +31,7 @@ returns-then-not-branch-clause-whole c =
     let down = subst (λ (a : Application). Descended a t cs c.loop-tried.frames.items c.descend.new.frames.items c.in_ok-g.found) inv.can.application c.in_ok-g.ensures.descended in
     tried_all app t cs c.loop-tried.tried c.loop-tried.outcomes.items c.loop-tried.frames.items c.descend.new.frames.items c.in_ok-g.found inv.all down c.add.new.outcomes.items c.in_ok-add.ensures
     (subst (AdvancedOrNot c.descend.new.frames.items c.advance.new.frames.items) c.if-not-branch.true c.in_ok-advance.ensures)
-    c.args.most c.loop-tried-test.true c.all.result c.all.ensures.outcomes c.all.ensures.orders c.all.ensures.all
+    c.args.most c.loop-tried-test.true c.all.result c.all.ensures.outcomes c.all.ensures.orders c.all.ensures.all c.all.ensures.each
 
 pub returns-then-not-branch-clause-again : goal.returns-then-not-branch-clause-again
 returns-then-not-branch-clause-again c = start_next (applied c.args.generation c.args.units) c.args.tables.now c.args.commands.now c.loop-tried.generation c.loop-tried.units c.loop-tried.invariant.can c.in_ok-g.g c.in_ok-g.u c.in_ok-g.ensures.again

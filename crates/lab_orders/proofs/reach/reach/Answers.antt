@@ -5,8 +5,7 @@ use Rattle.abstract_monitor.specs.State.{Application}
 use Rattle.laws_of_runs.specs.Applied.{applied}
 use Rattle.laws_of_states.specs.Keeping.{IsScriptOf}
 use Rattle.lab_orders.specs.Searching.{IsTaken}
-use Rattle.lab_orders.proofs.Found.{reached_from}
-use Rattle.lab_orders.proofs.Reaching.{way_taken}
+use Rattle.lab_orders.proofs.Reaching.{reached_from, way_taken}
 use Rattle.lab_orders.proofs.reach.reach.Goals as goal
 
 pub follow-requires-clause-taken : goal.follow-requires-clause-taken
@@ -26,7 +25,7 @@ returns-clause-application c = c.in_ok-core-2.ensures.application ∙ c.in_ok-co
 pub returns-clause-reached : goal.returns-clause-reached
 returns-clause-reached c =
     let app = applied c.args.generation c.args.units in
-    reached_from app c.args.tables.now c.args.commands.now c.in_ok-core.core c.in_ok-core.path c.in_ok-core.ensures c.args.frames.now c.in_ok-core-2.core c.follow.new.path c.in_ok-core-2.place c.in_ok-core-2.ensures c.requires.way
+    reached_from app c.args.tables.now c.args.commands.now c.in_ok-core.core c.in_ok-core.path c.in_ok-core.ensures c.args.frames.now c.args.asks c.in_ok-core-2.core c.follow.new.path c.in_ok-core-2.place c.in_ok-core-2.ensures c.requires.way
 
 pub returns-clause-steps : goal.returns-clause-steps
 returns-clause-steps c = omega (arith, c.in_ok-core-2.ensures.steps, c.in_ok-core.ensures.steps)

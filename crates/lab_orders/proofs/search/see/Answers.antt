@@ -1,14 +1,14 @@
-use Rattle.std.proofs.Common.{◌≡◌, sym, ap, subst, ◌∙◌}
+use Rattle.std.specs.Prelude.{false}
+use Rattle.std.proofs.Common.{◌≡◌, sym, subst, ◌∙◌}
 use Rattle.abstract_monitor.specs.Commands.{started}
 use Rattle.abstract_monitor.specs.State.{Application}
 use Rattle.laws_of_runs.specs.Applied.{applied}
-use Rattle.lab_orders.specs.declared.reach.Place.{Place}
-use Rattle.lab_orders.specs.Searching.{CanCount, CanGo, Reached, quest_of, spot_of}
+use Rattle.lab_orders.specs.Searching.{CanCount, CanGo, Reached, quest_of}
 use Rattle.lab_walks.specs.Frames.{IsFrame, IsWay, turns_in}
 use Rattle.lab_walks.specs.Walks.{InRun, IsWalk, Spot, stand}
 use Rattle.lab_orders.specs.Finding.{CanStart, IsFound}
 use Rattle.lab_orders.proofs.Finding.{start_from}
-use Rattle.lab_orders.proofs.Found.{reached_walk}
+use Rattle.lab_orders.proofs.Found.{inside_stands, reached_walk}
 use Rattle.lab_orders.proofs.Reaching.{way_taken}
 use Rattle.lab_orders.proofs.search.see.Goals as goal
 
@@ -21,7 +21,7 @@ pub open-requires-clause-here : goal.open-requires-clause-here
 open-requires-clause-here c =
     let app = applied c.args.generation c.args.units in
     subst (λ (a : Application). stand a c.args.commands.now (started a c.args.tables.now) (turns_in c.args.frames.now) ≡ InRun c.in-Inside.left c.in-Inside.room c.in_ok-core.core.state) (sym c.in_ok-core.ensures.application)
-    (c.in_ok-core.ensures.reached ∙ ap (λ (p : Place). spot_of p c.in_ok-core.core.state) c.in-Inside.is)
+    (inside_stands (quest_of app c.args.commands.now c.args.tables.now c.args.frames.now false) c.in_ok-core.core c.in_ok-core.field-0-1 c.in-Inside.left c.in-Inside.room c.in-Inside.field-2 (subst (Reached (quest_of app c.args.commands.now c.args.tables.now c.args.frames.now false) c.in_ok-core.core c.in_ok-core.field-0-1) c.in-Inside.is c.in_ok-core.ensures.reached))
 
 pub open-requires-clause-room : goal.open-requires-clause-room
 open-requires-clause-room c = subst CanCount c.in-Inside.is c.in_ok-core.ensures.few
@@ -40,14 +40,14 @@ found_of-requires-clause-start c =
 pub found_of-requires-clause-walk : goal.found_of-requires-clause-walk
 found_of-requires-clause-walk c =
     let app = applied c.args.generation c.args.units in
-    let reached = subst (Reached (quest_of app c.args.commands.now c.args.tables.now c.args.frames.now) c.in_ok-core.core) c.in-Ended.is c.in_ok-core.ensures.reached in
+    let reached = subst (Reached (quest_of app c.args.commands.now c.args.tables.now c.args.frames.now false) c.in_ok-core.core c.in_ok-core.field-0-1) c.in-Ended.is c.in_ok-core.ensures.reached in
     subst (λ (a : Application). IsWalk a c.args.commands.now (started a c.args.tables.now) c.in_ok-turns-in-Ended.turns) (sym c.in_ok-core.ensures.application ∙ c.into_application-generation.ensures.application)
     (subst (IsWalk app c.args.commands.now (started app c.args.tables.now)) (sym c.in_ok-turns-in-Ended.ensures) (reached_walk app c.args.tables.now c.args.commands.now c.args.frames.now c.in_ok-core.core c.requires.way reached).1)
 
 pub returns-in_ok-generation-in-Ended-clause-saw : goal.returns-in_ok-generation-in-Ended-clause-saw
 returns-in_ok-generation-in-Ended-clause-saw c =
     let app = applied c.args.generation c.args.units in
-    let reached = subst (Reached (quest_of app c.args.commands.now c.args.tables.now c.args.frames.now) c.in_ok-core.core) c.in-Ended.is c.in_ok-core.ensures.reached in (
+    let reached = subst (Reached (quest_of app c.args.commands.now c.args.tables.now c.args.frames.now false) c.in_ok-core.core c.in_ok-core.field-0-1) c.in-Ended.is c.in_ok-core.ensures.reached in (
       (reached_walk app c.args.tables.now c.args.commands.now c.args.frames.now c.in_ok-core.core c.requires.way reached).0,
       c.in_ok-generation-in-Ended.ensures.turns ∙ c.in_ok-turns-in-Ended.ensures,
       subst (λ (a : Application). IsFound a c.args.tables.now c.args.commands.now c.in_ok-generation-in-Ended.found) (sym c.into_application-generation.ensures.application ∙ c.in_ok-core.ensures.application) c.in_ok-generation-in-Ended.ensures.found,
@@ -59,7 +59,8 @@ returns-in_ok-generation-in-Ended-clause-again c =
 
 pub returns-in_ok-core-in-Inside-clause-saw : goal.returns-in_ok-core-in-Inside-clause-saw
 returns-in_ok-core-in-Inside-clause-saw c =
-    let spot = c.in_ok-core.ensures.reached ∙ ap (λ (p : Place). spot_of p c.in_ok-core.core.state) c.in-Inside.is in (
+    let app = applied c.args.generation c.args.units in
+    let spot = inside_stands (quest_of app c.args.commands.now c.args.tables.now c.args.frames.now false) c.in_ok-core.core c.in_ok-core.field-0-1 c.in-Inside.left c.in-Inside.room c.in-Inside.field-2 (subst (Reached (quest_of app c.args.commands.now c.args.tables.now c.args.frames.now false) c.in_ok-core.core c.in_ok-core.field-0-1) c.in-Inside.is c.in_ok-core.ensures.reached) in (
       subst (λ (x : Application × Spot). IsFrame x.0 x.1 c.in_ok-core-in-Inside.frame) (λ i. (c.in_ok-core.ensures.application i, sym spot i)) c.in_ok-core-in-Inside.ensures.frame,
       c.in_ok-core-in-Inside.ensures.first,
     )

@@ -18,7 +18,7 @@ pub returns-clause-done : goal.returns-clause-done
 returns-clause-done c =
     let app = c.args.core.application in
     let s = c.args.core.state in
-    did_command c.steps_commit_once.ensures.tables c.args.core c.in_ok-next.next c.args.command.now c.args.path.now _ c.requires.beside c.in_ok-next.ensures.facts c.in_ok-next.ensures.one.application (c.steps_commit_once.ensures.commands app s c.args.command.now) c.in_ok-next.acts c.in_ok-next.ensures.exact
+    did_command c.steps_commit_once.ensures.tables c.args.core c.in_ok-next.next c.args.command.now c.args.path.now _ c.requires.beside c.in_ok-next.ensures.facts c.in_ok-next.ensures.replays c.in_ok-next.ensures.one.application (c.steps_commit_once.ensures.commands app s c.args.command.now) c.in_ok-next.acts c.in_ok-next.ensures.exact
     c.in_ok-keep.ensures.turns c.in_ok-keep.ensures.sent c.in_ok-keep.ensures.durable
     (seen_command c.args.path.now.signs c.seen-path.result c.in_ok-next.next.state (c.seen-path.ensures.k04 ∙ ap (λ (x : Signs). x.k04 || is_refused_in is_k04 c.in_ok-next.next.state) c.in_ok-keep.ensures.signs) (c.seen-path.ensures.k05 ∙ ap (λ (x : Signs). x.k05 || is_refused_in is_k05 c.in_ok-next.next.state) c.in_ok-keep.ensures.signs)
     app s c.args.command.now c.requires.core_command c.in_ok-next.ensures.exact.state (c.seen-path.ensures.dump ∙ ap (λ (x : Signs). x.dump || false) c.in_ok-keep.ensures.signs))

@@ -20,7 +20,7 @@ returns-clause-done c =
     let app = c.args.core.application in
     let s = c.args.core.state in
     let comes = turn_comes app s c.in_ok-next.next.state c.args.task c.in_ok-next.did c.in_ok-next.ensures.exact in
-    did_command c.steps_commit_once.ensures.tables c.args.core c.in_ok-next.next (Turn c.args.task) c.args.path.now _ c.requires.beside c.in_ok-next.ensures.facts c.in_ok-next.ensures.one.application (turn_commits app s c.args.task (c.steps_commit_once.ensures.turns app s c.args.task)) c.in_ok-next.did.acts comes
+    did_command c.steps_commit_once.ensures.tables c.args.core c.in_ok-next.next (Turn c.args.task) c.args.path.now _ c.requires.beside c.in_ok-next.ensures.facts c.in_ok-next.ensures.replays c.in_ok-next.ensures.one.application (turn_commits app s c.args.task (c.steps_commit_once.ensures.turns app s c.args.task)) c.in_ok-next.did.acts comes
     c.in_ok-keep.ensures.turns c.in_ok-keep.ensures.sent c.in_ok-keep.ensures.durable
     (seen_turn c.args.path.now.signs c.seen-path.result c.in_ok-next.next.state (c.seen-path.ensures.k04 ∙ ap (λ (x : Signs). x.k04 || is_refused_in is_k04 c.in_ok-next.next.state) c.in_ok-keep.ensures.signs) (c.seen-path.ensures.k05 ∙ ap (λ (x : Signs). x.k05 || is_refused_in is_k05 c.in_ok-next.next.state) c.in_ok-keep.ensures.signs)
     app s c.args.task c.in_ok-next.did c.in_ok-next.ensures.exact (c.seen-path.ensures.dump ∙ ap (λ (x : Signs). x.dump || is_dump (maker_of c.in_ok-next.did.settled)) c.in_ok-keep.ensures.signs))
