@@ -1,7 +1,8 @@
 """Made calls of the laboratory. Texts of the examples get slips of every kind, in any number: `lab check` has to find each
 in its order, and to warn of what is likely wrong. Of made scripts `lab trace`, `lab talk` and `lab test` have to send what
 `utm` sends. Of made contests between two users `lab explore` has to find the outcomes, of which each is what `utm` comes
-to by the script that is printed, and where all orders were tried, no other order comes to another one."""
+to by the script that is printed, and where all orders were tried, no other order comes to another one. Orders that stand
+for all have to have just the outcomes that all have, with orders as short."""
 
 import itertools
 import re
@@ -420,14 +421,14 @@ class Contest:
     def tried(self, folder):
         self.takes(folder, [*self.begins, self.run])
         status, lines = folder.call(folder.lab, "explore", "app", str(self.most))
-        head = re.match(r"ORDERS ([0-9]+) (ALL|DRAWN FROM 1) OUTCOMES ([0-9]+)$", lines[0] if lines else "")
+        head = self.head(lines)
         if not head:
             yield f"* {status} {lines}"
             return
         found = self.outcomes(lines[1:])
         if int(head[3]) != len(found) or int(head[1]) != sum(it["orders"] for it in found):
             yield f"* {lines[0]}, but {[it['orders'] for it in found]}"
-        if int(head[1]) > self.most or head[2] != "ALL" and int(head[1]) != self.most:
+        if int(head[1]) > self.most or head[2] == "DRAWN FROM 1" and int(head[1]) != self.most:
             yield f"* {lines[0]} of {self.most}"
         told = [(set(it["marks"]), self.by_names(it["SENT"]), it["TABLES"]) for it in found]
         if any(it in told[:place] for place, it in enumerate(told)):
@@ -446,10 +447,35 @@ class Contest:
             ran = self.outcome(folder, it["SCRIPT"])
             if ran != ((0, it["SENT"]), (0, it["TABLES"])):
                 yield f"* by its script utm comes to {ran}, not {it}"
-        if head[2] == "ALL":
-            yield from self.rotation(folder, comes_to)
-        if head[2] == "ALL" and self.run == "RUN 100":
+        if head[2] == "DRAWN FROM 1":
+            return
+        yield from self.rotation(folder, comes_to)
+        if self.run == "RUN 100":
             yield from self.others(folder, comes_to)
+        if head[2] == "ALL" and int(head[1]) > 1:
+            yield from self.standing(folder, int(head[1]) - 1, found)
+
+    def standing(self, folder, most, found):
+        """With one order less than there are, those that stand for all have to come to the same."""
+        self.takes(folder, [*self.begins, self.run])
+        lines = folder.call(folder.lab, "explore", "app", str(most))[1]
+        head = self.head(lines)
+        if not head or head[2] == "ALL":
+            yield f"* {lines[:1]} of {most}"
+        elif head[2] == "FOR ALL":
+            wanted, told = ([self.in_short(it) for it in those] for those in (found, self.outcomes(lines[1:])))
+            if len(wanted) != len(told) or any(it not in told for it in wanted):
+                yield f"* {lines[0]}: {told}, not {wanted}"
+
+    def in_short(self, outcome):
+        """What an outcome is, and how many turns the order has that it shows."""
+        turns = sum(1 for it in outcome["SCRIPT"] if it.startswith("TURN "))
+        return set(outcome["marks"]), self.by_names(outcome["SENT"]), outcome["TABLES"], turns
+
+    @staticmethod
+    def head(lines):
+        """How many orders were tried, which, and how many outcomes they have."""
+        return re.match(r"ORDERS ([0-9]+) (ALL|FOR ALL|DRAWN FROM 1) OUTCOMES ([0-9]+)$", lines[0] if lines else "")
 
     @staticmethod
     def outcomes(lines):
