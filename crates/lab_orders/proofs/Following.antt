@@ -1,6 +1,6 @@
 -- Walks that stand for all, and turns that are still to be followed.
-use Rattle.std.proofs.Common.{◌≡◌, ℕ, zero, suc, ◌+◌, ◌<◌, List, [], ◌∷◌, ◌++◌, inl, inr, refl, sym, ap, subst, ◌∙◌, append_assoc, arith, below_more, drop, get_or, length, slice_set}
-use Rattle.std.specs.Prelude.{◌⊎◌, IsTrue, Option, Some, None, cond, nat_lt}
+use Rattle.std.proofs.Common.{◌≡◌, ℕ, zero, suc, ◌+◌, ◌<◌, List, [], ◌∷◌, ◌++◌, inl, inr, refl, sym, ap, subst, ◌∙◌, arith, below_more, drop, get_or, length, slice_set}
+use Rattle.std.specs.Prelude.{◌⊎◌, Option, Some, None, cond, nat_lt}
 use Rattle.std.proofs.Math.Seq.{drop-append_seam}
 use Rattle.std.proofs.lemmas.List.{append-nil, drop_more, length-append}
 use Rattle.std.proofs.lemmas.List.Sums.{sum_by-append}
@@ -14,7 +14,6 @@ use Rattle.lab_walks.specs.declared.frame.Frame.{Frame}
 use Rattle.lab_walks.specs.Ahead.{Arrived, ArrivedStandFor, SeesTheSame, StandsFor}
 use Rattle.lab_walks.specs.Frames.{IsFrame, IsWay, turn_in, turns_in}
 use Rattle.lab_walks.specs.FramesLaws.{way_more}
-use Rattle.lab_walks.specs.Orders.{is_in}
 use Rattle.lab_walks.specs.Walks.{AtEnd, CanBe, InRun, IsEnd, IsWalk, Spot, stand}
 use Rattle.lab_orders.specs.declared.explored.Outcome.{Outcome}
 use Rattle.lab_orders.specs.declared.key.Key.{Key}
@@ -27,8 +26,8 @@ use Rattle.lab_orders.specs.Finding.{SawIt}
 use Rattle.lab_orders.specs.Standing.{AreInPlace, AreNodes, CanReplace, IsAsGood, IsFollowed, IsNode, IsPending, IsPut, IsReplaced, IsStoodFor, chosen}
 use Rattle.lab_orders.specs.Told.{turns_of}
 use Rattle.lab_orders.proofs.Exploring.{tally_more, tally_start}
-use Rattle.lab_orders.proofs.Reaching.{turns_both}
-use Rattle.lab_orders.proofs.Searching.{is_in_there, way_none}
+use Rattle.lab_orders.proofs.Reaching.{turns_more}
+use Rattle.lab_orders.proofs.Searching.{goes_on, is_in_there, no_stop, way_none}
 
 -- ---- lists
 
@@ -221,14 +220,6 @@ module _ (app : Application) (t : TableRows) (cs : List Command) where
 
   -- ---- the choices of a frame
 
-  no_stop : (p : Spot) (f : Frame) → IsFrame app p f → IsEnd p → ⊥
-  no_stop (AtEnd u) f h end = h
-  no_stop (InRun left room u) f h end = end
-
-  goes_on : (p : Spot) (f : Frame) → IsFrame app p f → (u : ℕ) → CanBe app p u → IsTrue (is_in u f.choices)
-  goes_on (AtEnd u) f h t can = absurd h
-  goes_on (InRun left room u) f h t can = h.whole t can
-
   chosen_frame : (p : Spot) (f : Frame) (at : ℕ) → at < length f.choices → IsFrame app p f → IsFrame app p (chosen f at)
   chosen_frame (AtEnd u) f at less h = h
   chosen_frame (InRun left room u) f at less h = record { idle = h.idle; can = h.can; whole = h.whole; once = h.once; at = less }
@@ -237,16 +228,13 @@ module _ (app : Application) (t : TableRows) (cs : List Command) where
     pub choice_way : IsWay app cs (started app t) frames → (at : ℕ) → at < length last.choices → IsWay app cs (started app t) (frames ++ chosen last at ∷ [])
     choice_way way at less = way_more app cs (started app t) frames (chosen last at) way (chosen_frame (stand app cs (started app t) (turns_in frames)) last at less here)
 
-    turns_more : (f : Frame) (o : List ℕ) → turns_in (frames ++ f ∷ []) ++ o ≡ turns_in frames ++ turn_in f ∷ o
-    turns_more f o = ap (λ (l : List ℕ). l ++ o) (turns_both frames (f ∷ [])) ∙ append_assoc (turns_in frames) (turn_in f ∷ []) o
-
     -- a walk goes on by one of them
     pub choices_follow : (nodes : List Node) → ((at : ℕ) → at < length last.choices → Follows nodes (frames ++ chosen last at ∷ [])) → Follows nodes frames
-    choices_follow nodes each [] walk = absurd (no_stop (stand app cs (started app t) (turns_in frames)) last here (subst (λ (w : List ℕ). IsEnd (stand app cs (started app t) w)) (append-nil (turns_in frames)) walk.end))
+    choices_follow nodes each [] walk = absurd (no_stop app cs (started app t) (stand app cs (started app t) (turns_in frames)) last here (subst (λ (w : List ℕ). IsEnd (stand app cs (started app t) w)) (append-nil (turns_in frames)) walk.end))
     choices_follow nodes each (u ∷ o) walk =
-        let there = is_in_there u last.choices (goes_on (stand app cs (started app t) (turns_in frames)) last here u (walk.can (turns_in frames) u o refl)) in
+        let there = is_in_there u last.choices (goes_on app cs (started app t) (stand app cs (started app t) (turns_in frames)) last here u (walk.can (turns_in frames) u o refl)) in
         let it = place_in u 0 last.choices there in
-        let same = turns_more (chosen last it.0) o ∙ ap (λ (v : ℕ). turns_in frames ++ v ∷ o) it.2 in
+        let same = turns_more frames (chosen last it.0) o ∙ ap (λ (v : ℕ). turns_in frames ++ v ∷ o) it.2 in
         subst (IsPending app cs (started app t) nodes) same (each it.0 it.1 o (subst (IsWalk app cs (started app t)) (sym same) walk))
 
     -- one of them more was put among the nodes

@@ -29,7 +29,8 @@ use Rattle.lab_walks.specs.Ahead.{Ahead, ahead, ahead_in}
 use Rattle.lab_orders.specs.Trying.{Rested}
 use Rattle.lab_orders.specs.Walking.{Begun, DidCommand, IsBeside, IsNoRun, IsSeen, tries_of}
 use Rattle.lab_orders.proofs.Commands.{here_and_behind, name_here, tries_here}
-use Rattle.lab_orders.proofs.Steps.{acts_both, after_both, after_one, bytes_both, moved, no_acts_after}
+use Rattle.lab_walks.specs.StepsLaws.{acts_both, after_both, bytes_both}
+use Rattle.lab_orders.proofs.Steps.{after_one, moved, no_acts_after}
 
 -- ---- what is sent and seen
 

@@ -29,13 +29,14 @@ use Rattle.lab_orders.specs.Trying.{Rested}
 use Rattle.lab_orders.specs.Walking.{Begun, DidCommand, IsBeside, IsNoRun, tries_of}
 use Rattle.lab_orders.proofs.Commands.{name_here, tries_here, here_and_behind}
 use Rattle.lab_orders.proofs.Performing.{ahead_begins, ahead_behind, all_both, at_over, at_turn, at_zero, flags_both, none_of_both, still_beside, tells_step}
-use Rattle.lab_orders.proofs.Steps.{acts_both, after_both, after_one, bytes_both, moved, no_acts_after, stand_begins, stand_behind, stand_ends, stand_none, stand_over, stand_rest, stand_turn}
+use Rattle.lab_walks.specs.StepsLaws.{acts_both, after_both, bytes_both}
+use Rattle.lab_orders.proofs.Steps.{after_one, moved, no_acts_after, stand_begins, stand_behind, stand_ends, stand_none, stand_over, stand_rest, stand_turn}
 
 pub turns_both : (xs ys : List Frame) → turns_in (xs ++ ys) ≡ turns_in xs ++ turns_in ys
 turns_both [] ys = refl
 turns_both (x ∷ xs) ys = ap (λ (l : List ℕ). turn_in x ∷ l) (turns_both xs ys)
 
-turns_more : (done : List Frame) (f : Frame) (o : List ℕ) → turns_in (done ++ f ∷ []) ++ o ≡ turns_in done ++ turn_in f ∷ o
+pub turns_more : (done : List Frame) (f : Frame) (o : List ℕ) → turns_in (done ++ f ∷ []) ++ o ≡ turns_in done ++ turn_in f ∷ o
 turns_more done f o = ap (λ (l : List ℕ). l ++ o) (turns_both done (f ∷ [])) ∙ append_assoc (turns_in done) (turn_in f ∷ []) o
 
 -- ---- what is told
@@ -345,9 +346,6 @@ module _ (asks : Bool) (c d : CoreValue) (before now : Path) (commands : List Co
           ∙ stand_ends d.application d.state (turns_in rest)
 
   module _ (command : Command) (is : command ≡ get_or commands at command) (lt : at < length commands) where
-    pub following_later : 1 ≤ later
-    following_later = omega (arith, lt, following.number)
-
     pub following_steps : c.steps + sum_by tries_of commands ≤ 10 ^ 14 → d.steps + tries_of command ≤ 10 ^ 14
     following_steps few = omega (arith, few, tries_here commands at command is lt, following.steps)
 

@@ -272,11 +272,11 @@ module _ (app : Application) (cs : List Command) (s : State) where
   -- ---- what is ahead
 
   -- a walk that begins with these turns goes on with what can be next
-  goes_on : (p : Spot) (f : Frame) → IsFrame app p f → (t : ℕ) → CanBe app p t → IsTrue (is_in t f.choices)
+  pub goes_on : (p : Spot) (f : Frame) → IsFrame app p f → (t : ℕ) → CanBe app p t → IsTrue (is_in t f.choices)
   goes_on (AtEnd u) f h t can = absurd h
   goes_on (InRun left room u) f h t can = h.whole t can
 
-  no_stop : (p : Spot) (f : Frame) → IsFrame app p f → IsEnd p → ⊥
+  pub no_stop : (p : Spot) (f : Frame) → IsFrame app p f → IsEnd p → ⊥
   no_stop (AtEnd u) f h end = h
   no_stop (InRun left room u) f h end = end
 

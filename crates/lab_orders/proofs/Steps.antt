@@ -1,32 +1,14 @@
 -- The steps of one turn of a RUN, and of a command.
-use Rattle.std.proofs.Common.{◌≡◌, ℕ, ◌+◌, suc, List, [], ◌∷◌, ◌++◌, refl, sym, ap, subst, ◌∙◌, append_assoc}
-use Rattle.kdcs_types.specs.declared.act.Act.{Act}
-use Rattle.kdcs_types.specs.declared.act.Act.TheVariants.{Commit, Emit}
+use Rattle.std.proofs.Common.{◌≡◌, ℕ, ◌+◌, suc, List, [], ◌∷◌, refl, sym, subst}
 use Rattle.abstract_monitor.specs.declared.command.Command.{Command}
 use Rattle.abstract_monitor.specs.declared.command.Command.TheVariants.{Input, Tick, Run, Turn, Drop, Print, PrintLast, Restart}
-use Rattle.abstract_monitor.specs.Bytes.{Bytes}
-use Rattle.abstract_monitor.specs.Commands.{ScriptStep, acts_of, command_of, state_after, steps_of, turned_step}
+use Rattle.abstract_monitor.specs.Commands.{ScriptStep, command_of, state_after, steps_of, turned_step}
 use Rattle.abstract_monitor.specs.State.{Application, State}
-use Rattle.abstract_monitor.specs.Trace.{bytes_of, history}
+use Rattle.abstract_monitor.specs.Trace.{history}
 use Rattle.abstract_monitor.specs.Turns.{turn_of}
 use Rattle.lab_walks.specs.Orders.{order_steps, turned_run, turned_script}
 use Rattle.lab_orders.specs.Walking.{IsNoRun}
 use Rattle.lab_walks.specs.Walks.{AtEnd, InRun, Spot, idle_count, stand, stand_run}
-
-pub bytes_both : (xs ys : List Act) → bytes_of (xs ++ ys) ≡ bytes_of xs ++ bytes_of ys
-unfolding bytes_of
-bytes_both [] ys = refl
-bytes_both (Commit c ∷ xs) ys = bytes_both xs ys
-bytes_both (Emit line ∷ xs) ys = ap (λ (b : Bytes). line ++ b) (bytes_both xs ys) ∙ sym (append_assoc line (bytes_of xs) (bytes_of ys))
-
-pub acts_both : (xs ys : List ScriptStep) → acts_of (xs ++ ys) ≡ acts_of xs ++ acts_of ys
-acts_both [] ys = refl
-acts_both (d ∷ xs) ys = ap (λ (l : List Act). d.acts ++ l) (acts_both xs ys) ∙ sym (append_assoc d.acts (acts_of xs) (acts_of ys))
-
-pub after_both : (s : State) (xs ys : List ScriptStep) → state_after s (xs ++ ys) ≡ state_after (state_after s xs) ys
-unfolding state_after
-after_both s [] ys = refl
-after_both s (d ∷ ds) ys = after_both d.after ds ys
 
 pub no_acts_after : (s : State) → state_after s [] ≡ s
 unfolding state_after

@@ -22,7 +22,8 @@ use Rattle.lab_walks.specs.Walks.{CanBe, InRun, IsEnd, Spot, idle_count, idle_fr
 use Rattle.lab_orders.proofs.Effects.{no_effect_no_acts, no_effect_no_change}
 use Rattle.lab_walks.specs.ListsLaws.{head_of, not_none, tail_of}
 use Rattle.lab_orders.proofs.Working.{worked_begins, worked_behind, worked_over, worked_rest, worked_spent}
-use Rattle.lab_orders.proofs.Steps.{after_one, bytes_both, command_steps, no_steps, over_steps, rest_steps, run_steps, stand_begins, stand_behind, stand_ends, stand_none, stand_over, stand_rest, stand_turn, turn_steps}
+use Rattle.lab_walks.specs.StepsLaws.{bytes_both}
+use Rattle.lab_orders.proofs.Steps.{after_one, command_steps, no_steps, over_steps, rest_steps, run_steps, stand_begins, stand_behind, stand_ends, stand_none, stand_over, stand_rest, stand_turn, turn_steps}
 
 -- ---- tasks that are idle and not yet among these
 
